@@ -1,0 +1,13 @@
+pub mod Moves
+pub mod Unfinished
+pub mod Lists
+pub mod Shapes
+pub mod Reached
+pub mod Endings
+pub mod Limited
+pub mod Freely
+pub mod Accepted
+pub mod Latest
+pub mod ReadFronts
+pub mod Judged
+pub mod Refused
