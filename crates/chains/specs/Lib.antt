@@ -1,0 +1,10 @@
+pub mod Ranked
+pub mod Chains
+pub mod Places
+pub mod ChainOrder
+pub mod Counting
+pub mod Joining
+pub mod Ends
+pub mod Meaning
+pub mod Worked
+pub mod Listing

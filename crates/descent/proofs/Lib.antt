@@ -1,0 +1,10 @@
+pub mod Descents
+pub mod Strays
+pub mod Flagging
+pub mod Bases
+pub mod Finite
+pub mod Closures
+pub mod Ranks
+pub mod Keeping
+pub mod Computing
+pub mod Rounds

@@ -1,0 +1,12 @@
+pub mod Links
+pub mod Loops
+pub mod Refusals
+pub mod Answers
+pub mod Layers
+pub mod Laws
+pub mod Trims
+pub mod Nearests
+pub mod Kept
+pub mod Computed
+pub mod Facts
+pub mod Worked

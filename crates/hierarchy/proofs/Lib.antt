@@ -1,0 +1,4 @@
+pub mod Known
+pub mod LinkTables
+pub mod Books
+pub mod SettledTables

@@ -1,0 +1,10 @@
+pub mod Lowest
+pub mod Counts
+pub mod Tallies
+pub mod Places
+pub mod Orders
+pub mod Waits
+pub mod Rankings
+pub mod Rounds
+pub mod Left
+pub mod WholeOrders

@@ -1,0 +1,16 @@
+pub mod Layouts
+pub mod Lowests
+pub mod RowPlaces
+pub mod Answering
+pub mod LongPaths
+pub mod Reductions
+pub mod Keys
+pub mod Fewness
+pub mod Trimming
+pub mod Slotting
+pub mod Lowering
+pub mod Visiting
+pub mod KeptSteps
+pub mod Visits
+pub mod Passing
+pub mod WorkedLayout

@@ -1,0 +1,4 @@
+pub mod Settling
+pub mod Laying
+pub mod Writing
+pub mod Numbers
