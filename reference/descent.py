@@ -9,13 +9,12 @@ by way of each middle type in turn, and every answer is read off a table.
     python3 reference/descent.py --check    say whether they are as this program would write them
 """
 
-import os
 import random
-import sys
+
+import common
 
 OLD = 7
 MOST_LEVELS = 1024
-FOLDER = os.path.join(os.path.dirname(os.path.abspath(__file__)), "..", "crates", "descent_cases")
 
 
 # ---- relations, as a list of rows: bit b of row a says whether a is related to b
@@ -24,11 +23,7 @@ def closure(types, links):
     rows = [1 << a for a in range(types)]
     for a, b in links:
         rows[a] |= 1 << b
-    for middle in range(types):
-        for a in range(types):
-            if rows[a] >> middle & 1:
-                rows[a] |= rows[middle]
-    return rows
+    return common.closed(rows)
 
 
 def opposite(rows):
@@ -281,16 +276,7 @@ def main():
     for case in cases():
         script.append(case.script())
         lines += case.expected()
-    texts = {"stdin": "\n".join(script) + "\n", "stdout": "\n".join(lines) + "\n"}
-    for name, text in texts.items():
-        path = os.path.join(FOLDER, name)
-        if "--check" in sys.argv:
-            with open(path) as file:
-                if file.read() != text:
-                    sys.exit("%s is not what this program writes" % path)
-        else:
-            with open(path, "w") as file:
-                file.write(text)
+    common.deliver({"descent_cases/stdin": script, "descent_cases/stdout": lines})
     print("%d cases, %d lines" % (len(script), len(lines)))
 
 

@@ -2,23 +2,23 @@
 """Cases for numbered books, and what they must give.
 
 Writes crates/hierarchy_cases/stdin, a script of steps on books, and crates/hierarchy_cases/stdout, the lines
-that the program must print for it; and crates/measure/stdout, what the measured hierarchies come out as. Nothing here is taken from the program: descent is a whole table, closed by
-way of each middle type in turn, and order, chains, rows and kept entries are read off it by their rules.
-Which loop a refused settle writes is free, so the program itself says whether what it wrote is one; its length
-is asked for where all loops have the same.
+that the program must print for it; and crates/measure/stdout, what the measured hierarchies come out as.
+Nothing here is taken from the program: descent is a whole table, closed by way of each middle type in turn,
+and order, chains, rows and kept entries are read off it by their rules. Which loop a refused settle writes is
+free, so the program itself says whether what it wrote is one; its length is asked for where all loops have
+the same.
 
-    python3 reference/hierarchy.py            write the two files
+    python3 reference/hierarchy.py            write the three files
     python3 reference/hierarchy.py --check    say whether they are as this program would write them
 """
 
-import os
 import random
-import sys
+
+import common
 
 OLD, UNWRITTEN = 7, 65535
 MOST_TYPES, MOST_LINKS, SCRATCH_PER_TYPE = 1024, 8192, 4
 MOST_SHOWN, PRIME = 16, 1000000007
-FOLDER = os.path.join(os.path.dirname(os.path.abspath(__file__)), "..", "crates")
 
 
 # ---- the rules
@@ -28,11 +28,7 @@ def paths(types, links):
     rows = [0] * types
     for a, b in links:
         rows[a] |= 1 << b
-    for middle in range(types):
-        for a in range(types):
-            if rows[a] >> middle & 1:
-                rows[a] |= rows[middle]
-    return rows
+    return common.closed(rows)
 
 
 def order_of(types, links):
@@ -498,16 +494,7 @@ def main():
     for _ in range(400):
         random_book(script, dice)
     full_size(script, dice)
-    texts = {"hierarchy_cases/stdin": script.steps, "hierarchy_cases/stdout": script.lines, "measure/stdout": measured()}
-    for name, lines in texts.items():
-        path, text = os.path.join(FOLDER, name), "\n".join(lines) + "\n"
-        if "--check" in sys.argv:
-            with open(path) as file:
-                if file.read() != text:
-                    sys.exit("%s is not what this program writes" % path)
-        else:
-            with open(path, "w") as file:
-                file.write(text)
+    common.deliver({"hierarchy_cases/stdin": script.steps, "hierarchy_cases/stdout": script.lines, "measure/stdout": measured()})
     print("%d books, %d steps" % (script.books, len(script.steps)))
 
 

@@ -4,14 +4,11 @@
     reference/make_cases.py            writes crates/grammar_cases/stdin and stdout
     reference/make_cases.py --check    says whether they are as this program makes them
 """
-import os
 import random
-import sys
 
+import common
 import grammar
 
-HERE = os.path.dirname(os.path.abspath(__file__))
-FOLDER = os.path.join(HERE, "..", "crates", "grammar_cases")
 LETTERS = b"abcXYZ_"
 
 
@@ -118,16 +115,7 @@ def cases():
 
 def main():
     made = list(cases())
-    wanted = {"stdin": "".join(c + "\n" for c, _ in made), "stdout": "".join(a + "\n" for _, a in made)}
-    if sys.argv[1:] == ["--check"]:
-        for part, text in wanted.items():
-            with open(os.path.join(FOLDER, part)) as f:
-                if f.read() != text:
-                    sys.exit("crates/grammar_cases/%s is not what reference/make_cases.py makes" % part)
-        return
-    for part, text in wanted.items():
-        with open(os.path.join(FOLDER, part), "w") as f:
-            f.write(text)
+    common.deliver({"grammar_cases/stdin": [case for case, _ in made], "grammar_cases/stdout": [answer for _, answer in made]})
     print(len(made), "cases")
 
 
