@@ -126,11 +126,14 @@ class Book:
     TABLES = ("order", "chain", "position", "kept", "index")
 
     def __init__(self, number, room, links, order, chain, position, kept, index, loop, scratch):
-        self.loop, self.scratch = [OLD] * loop, [OLD] * scratch
-        self.looped = None
+        self.lend(loop, scratch)
         self.lengths = dict(zip(self.TABLES, (order, chain, position, kept, index)))
         self.places = links
         self.make(number, room)
+
+    def lend(self, loop, scratch):
+        self.loop, self.scratch = [OLD] * loop, [OLD] * scratch
+        self.looped = None
 
     def make(self, number, room):
         self.number, self.room = number, room
@@ -251,6 +254,10 @@ class Script:
         self.book.make(number, room)
         self.step("again", (number, room), self.book.show())
 
+    def lend(self, loop, scratch):
+        self.book.lend(loop, scratch)
+        self.step("lend", (loop, scratch), "lent")
+
     def types(self, count):
         self.step("types", [count], " ".join(["types:"] + [self.book.enter_type() for _ in range(count)]))
 
@@ -343,6 +350,25 @@ def random_step(script, dice, loops):
         script.again(dice.randrange(9), around(dice, book.types))
         script.types(book.types + 2)
     script.ask([(0, 0)])
+
+
+def joining_book(script, dice):
+    """Types in layers, each with a base or two in a layer above: short chains, of which joining puts many together."""
+    types, layers = dice.randrange(10, 25), dice.randrange(3, 7)
+    layer = [dice.randrange(layers) for _ in range(types)]
+    pairs = [(a, b) for a in range(types) for b in range(types) if layer[a] < layer[b] <= layer[a] + 2]
+    links = dice.sample(pairs, min(len(pairs), dice.randrange(types // 2, 2 * types)))
+    script.begin(3, types, len(links), types, types, types, len(links), types * types, types, SCRATCH_PER_TYPE * types)
+    script.types(types)
+    script.links(links)
+    for joining in (False, True):
+        script.settle(joining)
+        script.tables()
+    script.ask([(dice.randrange(types), dice.randrange(types)) for _ in range(20)])
+    script.lend(around(dice, types), around(dice, SCRATCH_PER_TYPE * types))
+    script.settle()
+    script.ask([(0, types - 1)])
+    script.tables()
 
 
 def lengths_around(script, links, types):
@@ -491,8 +517,10 @@ def main():
     worked(script)
     rings(script)
     dice = random.Random(4)
-    for _ in range(400):
+    for _ in range(360):
         random_book(script, dice)
+    for _ in range(120):
+        joining_book(script, dice)
     full_size(script, dice)
     common.deliver({"hierarchy_cases/stdin": script.steps, "hierarchy_cases/stdout": script.lines, "measure/stdout": measured()})
     print("%d books, %d steps" % (script.books, len(script.steps)))

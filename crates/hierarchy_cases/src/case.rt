@@ -34,6 +34,14 @@ impl Case {
         })
     }
 
+    // Gives the next settles other tables, of the lengths that follow.
+    pub fn lend(&mut self, heap: Global, numbers: &mut Numbers) -> Result<(), AnyError> {
+        self.table = numbers.table(heap)?;
+        self.scratch = numbers.table(heap)?;
+        self.looped = None;
+        Ok(())
+    }
+
     // A book over the tables of another, which is taken apart.
     pub fn again(self, numbers: &mut Numbers) -> Result<Case, AnyError> {
         let number = numbers.next()?;

@@ -38,6 +38,11 @@ fn run_step(
             println!(rt, "unsettled")?;
             Ok(())
         }
+        "lend" => {
+            case.lend(rt.alloc(), numbers)?;
+            println!(rt, "lent")?;
+            Ok(())
+        }
         "settle" => run_settle(rt, case, &Joining { inner: ChainOrder }),
         "chains" => run_settle(rt, case, &ChainOrder),
         "length" => {
