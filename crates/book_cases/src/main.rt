@@ -1,5 +1,7 @@
 // Replays the script of each case of standard input, and prints what is printed for it.
 // A case is a line `case LENGTH`, so many bytes of a script, and byte 10.
+#![tactic(auto)]
+
 use anyhow::anyhow;
 use script::replay::replayed;
 use std::alloc::Global;

@@ -1,4 +1,6 @@
 // What is proved of books, beyond the contracts of their calls: a printed book reads back, and worked books come out as told.
+#![tactic(auto)]
+
 ghost use Rattle.book_meaning.specs.ReadingBack.{EveryBookReadsBack};
 ghost use Rattle.book_meaning.specs.Tables.{TablesHoldExactlyTheEntries};
 ghost use Rattle.book_meaning.specs.Worked.{WorkedBooks};

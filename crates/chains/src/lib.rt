@@ -1,4 +1,6 @@
 // Decomposers: what lays ranked types out in chains.
+#![tactic(auto)]
+
 pub mod chain_order;
 pub mod decomposer;
 pub mod falling;

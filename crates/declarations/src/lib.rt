@@ -1,4 +1,6 @@
 // The book: declared types by name over the host's tables, with trials and tickets, and the law over every history of calls.
+#![tactic(auto)]
+
 pub mod book;
 pub mod call;
 pub mod calls;

@@ -43,11 +43,11 @@ pub fn check_question(types: u16, a: u16, b: u16) -> Result<(), Refusal>
 
 /// Asks a question about two numbers below the number of types, which is not refused.
 pub fn ask<A: Answerer>(answerer: &mut A, a: u16, b: u16) -> bool
-    requires first { a < count answerer.old }
-    requires second { b < count answerer.old }
-    ensures count { count answerer.new ≡ count answerer.old }
-    ensures relation { Same (relates answerer.new) (relates answerer.old) }
-    ensures answer { Tells result (relates answerer.old a b) }
+    requires first { a < A.count answerer.old }
+    requires second { b < A.count answerer.old }
+    ensures count { A.count answerer.new ≡ A.count answerer.old }
+    ensures relation { Same (A.relates answerer.new) (A.relates answerer.old) }
+    ensures answer { Tells result (A.relates answerer.old a b) }
 {
     match answerer.related(a, b) {
         Ok(holds) => holds,

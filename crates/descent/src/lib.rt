@@ -1,4 +1,6 @@
 // The mathematics of links between types, and the interface through which anybody asks about descent.
+#![tactic(auto)]
+
 pub mod answerer;
 pub mod facts;
 pub mod gate;

@@ -8,25 +8,25 @@ use crate::refusal::Refusal;
 
 // Whether both `a` and `b` are related to `c`.
 fn is_common<A: Answerer>(answerer: &mut A, a: u16, b: u16, c: u16) -> bool
-    requires first { a < count answerer.old }
-    requires second { b < count answerer.old }
-    requires base { c < count answerer.old }
-    ensures count { count answerer.new ≡ count answerer.old }
-    ensures relation { Same (relates answerer.new) (relates answerer.old) }
-    ensures answer { Tells result (Common (count answerer.old) (relates answerer.old) a b c) }
+    requires first { a < A.count answerer.old }
+    requires second { b < A.count answerer.old }
+    requires base { c < A.count answerer.old }
+    ensures count { A.count answerer.new ≡ A.count answerer.old }
+    ensures relation { Same (A.relates answerer.new) (A.relates answerer.old) }
+    ensures answer { Tells result (Common (A.count answerer.old) (A.relates answerer.old) a b c) }
 {
     ask(answerer, a, c) && ask(answerer, b, c)
 }
 
 // Whether `d` is a common base that is related to `c`, while `c` is not related to `d`.
 fn undercuts<A: Answerer>(answerer: &mut A, a: u16, b: u16, c: u16, d: u16) -> bool
-    requires first { a < count answerer.old }
-    requires second { b < count answerer.old }
-    requires base { c < count answerer.old }
-    requires other { d < count answerer.old }
-    ensures count { count answerer.new ≡ count answerer.old }
-    ensures relation { Same (relates answerer.new) (relates answerer.old) }
-    ensures answer { MatchBool result (Undercuts (count answerer.old) (relates answerer.old) a b c d) (Yields (count answerer.old) (relates answerer.old) a b c d) }
+    requires first { a < A.count answerer.old }
+    requires second { b < A.count answerer.old }
+    requires base { c < A.count answerer.old }
+    requires other { d < A.count answerer.old }
+    ensures count { A.count answerer.new ≡ A.count answerer.old }
+    ensures relation { Same (A.relates answerer.new) (A.relates answerer.old) }
+    ensures answer { MatchBool result (Undercuts (A.count answerer.old) (A.relates answerer.old) a b c d) (Yields (A.count answerer.old) (A.relates answerer.old) a b c d) }
 {
     is_common(answerer, a, b, d) && ask(answerer, d, c) && !ask(answerer, c, d)
 }
@@ -34,9 +34,9 @@ fn undercuts<A: Answerer>(answerer: &mut A, a: u16, b: u16, c: u16, d: u16) -> b
 /// The lowest-numbered type to which both are related, and which is related to each such type that is related to it;
 /// none where the two have no common base. Refused where one of them is not below the number of types.
 pub fn nearest<A: Answerer>(answerer: &mut A, a: u16, b: u16) -> Result<Option<u16>, Refusal>
-    ensures count { count answerer.new ≡ count answerer.old }
-    ensures relation { Same (relates answerer.new) (relates answerer.old) }
-    ensures answer { FindsNearest (count answerer.old) (relates answerer.old) a b result }
+    ensures count { A.count answerer.new ≡ A.count answerer.old }
+    ensures relation { Same (A.relates answerer.new) (A.relates answerer.old) }
+    ensures answer { FindsNearest (A.count answerer.old) (A.relates answerer.old) a b result }
 {
     let types = answerer.types();
     check_question(types, a, b)?;

@@ -49,11 +49,11 @@ fn is_rival(links: &[Link], k: usize, link: Link) -> bool
 
 // The flag of a link: 0 where another base of its type is related to its end, else 1. Each base is asked about once.
 fn flag<A: Answerer>(links: &[Link], answerer: &mut A, link: Link) -> u16
-    requires links { Within links.now (count answerer.old) }
-    requires link { link.to < count answerer.old }
-    ensures count { count answerer.new ≡ count answerer.old }
-    ensures relation { Same (relates answerer.new) (relates answerer.old) }
-    ensures flag { Flag result (Implied links.now (relates answerer.old) link) }
+    requires links { Within links.now (A.count answerer.old) }
+    requires link { link.to < A.count answerer.old }
+    ensures count { A.count answerer.new ≡ A.count answerer.old }
+    ensures relation { Same (A.relates answerer.new) (A.relates answerer.old) }
+    ensures flag { Flag result (Implied links.now (A.relates answerer.old) link) }
 {
     for (k, other) in links.iter().enumerate() {
         if is_rival(links, k, link) && ask(answerer, other.to, link.to) {
@@ -71,9 +71,9 @@ pub fn trim<A: Answerer>(
     answerer: &mut A,
     flags: &mut [u16],
 ) -> Result<usize, Refusal>
-    ensures count { count answerer.new ≡ count answerer.old }
-    ensures relation { Same (relates answerer.new) (relates answerer.old) }
-    ensures trimmed { Trimmed links.now (count answerer.old) (relates answerer.old) flags.old flags.new result }
+    ensures count { A.count answerer.new ≡ A.count answerer.old }
+    ensures relation { Same (A.relates answerer.new) (A.relates answerer.old) }
+    ensures trimmed { Trimmed links.now (A.count answerer.old) (A.relates answerer.old) flags.old flags.new result }
 {
     check_trim(answerer.types(), links, flags.len())?;
     let mut ones = 0;

@@ -1,5 +1,7 @@
 // Runs a script of cases over walks and piles of layers, and prints a line for each question, trim and nearest.
 // A line of the script is a walk, a pile over it, and what is asked of the pile; all in numbers.
+#![tactic(auto)]
+
 mod asked;
 mod cases;
 mod numbers;

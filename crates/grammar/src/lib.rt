@@ -1,4 +1,6 @@
 // Lines of a declaration text: their grammar, what they declare, and where they go wrong.
+#![tactic(auto)]
+
 mod bytes;
 pub mod claims;
 pub mod declaration;

@@ -1,5 +1,7 @@
 // Runs the cases on standard input, and prints what each comes out as. A case is a word and its arguments; bytes are
 // written in hexadecimal, after `=` where they may be none.
+#![tactic(auto)]
+
 use anyhow::anyhow;
 use grammar::declaration::{Declaration, Name, Unread, read_line};
 use grammar::line::check_line;
@@ -41,14 +43,14 @@ fn argument(heap: Global, word: Option<&str>) -> anyhow::Result<Vec<u8>> {
 
 fn show_bytes(rt: &HostRuntime, bytes: &[u8]) -> anyhow::Result<()> {
     for b in bytes {
-        print!(rt, "{}", char::from(*b))?;
+        print!(rt; "{}", char::from(*b))?;
     }
     Ok(())
 }
 
 fn show_name(rt: &HostRuntime, name: Name) -> anyhow::Result<()> {
     let Name { column, bytes } = name;
-    print!(rt, " {column}:")?;
+    print!(rt; " {column}:")?;
     show_bytes(rt, bytes)
 }
 
@@ -57,9 +59,9 @@ fn show_hex(rt: &HostRuntime, line: Option<&[u8]>) -> anyhow::Result<()> {
         println!(rt; "-")?;
         return Ok(());
     };
-    print!(rt, "=")?;
+    print!(rt; "=")?;
     for b in bytes {
-        print!(rt, "{b:02x}")?;
+        print!(rt; "{b:02x}")?;
     }
     println!(rt; "")?;
     Ok(())
@@ -70,8 +72,7 @@ fn run_line(rt: &HostRuntime, line: &[u8]) -> anyhow::Result<()> {
     let checked = check_line(line);
     match read_line(rt.alloc(), line) {
         Ok(read) => {
-            print!(
-                rt,
+            print!(rt;
                 "{}",
                 if checked.is_ok() {
                     "lawful"
@@ -89,7 +90,7 @@ fn run_line(rt: &HostRuntime, line: &[u8]) -> anyhow::Result<()> {
         }
         Err(Unread::Unlawful(fault)) => {
             if checked != Err(fault) {
-                print!(rt, "check_line disagrees ")?;
+                print!(rt; "check_line disagrees ")?;
             }
             println!(rt; "{} {}", fault.rule.number(), fault.column)?;
         }
@@ -103,8 +104,7 @@ fn run_texts(rt: &HostRuntime, shipped: &[u8], own: &[u8]) -> anyhow::Result<()>
         Ok(()) => println!(rt; "lawful")?,
         Err(refusal) => {
             let report = refusal.report();
-            print!(
-                rt,
+            print!(rt;
                 "{} {} {} {} ",
                 report.number, report.text, report.line, report.column
             )?;
@@ -145,9 +145,9 @@ fn run_vet(rt: &HostRuntime, input: &[u8]) -> anyhow::Result<()> {
     let answer = vet(rt.alloc(), input)?;
     for b in &answer {
         if *b == b'\n' {
-            print!(rt, "|")?;
+            print!(rt; "|")?;
         } else {
-            print!(rt, "{}", char::from(*b))?;
+            print!(rt; "{}", char::from(*b))?;
         }
     }
     println!(rt; "")?;

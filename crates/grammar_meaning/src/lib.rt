@@ -1,4 +1,6 @@
 // What the reading of a line means, in the words of its grammar, its limits and its bad places.
+#![tactic(auto)]
+
 ghost use Rattle.grammar_meaning.specs.Claims.{AcceptsLawfulLines, RefusesAtBadPlaces};
 
 /// A line is accepted, with its names, exactly when the grammar has it so and the names keep both limits.

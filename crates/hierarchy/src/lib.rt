@@ -1,4 +1,6 @@
 // The numbered book: types and links by number, over tables that the host makes.
+#![tactic(auto)]
+
 pub mod book;
 pub mod calls;
 pub mod chain_index;

@@ -6,10 +6,10 @@ use hierarchy::refusal::Refusal;
 
 // Enters so many types, and prints the number of each.
 pub fn run_types(rt: &HostRuntime, book: &mut Hierarchy, count: u32) -> anyhow::Result<()> {
-    print!(rt, "types:")?;
+    print!(rt; "types:")?;
     for _ in 0..count {
         match book.enter_type() {
-            Ok(number) => print!(rt, " {number}")?,
+            Ok(number) => print!(rt; " {number}")?,
             Err(refusal) => say_refusal(rt, refusal)?,
         }
     }
@@ -23,13 +23,13 @@ pub fn run_links(
     book: &mut Hierarchy,
     numbers: &mut Numbers,
 ) -> anyhow::Result<()> {
-    print!(rt, "links:")?;
+    print!(rt; "links:")?;
     for _ in 0..numbers.pairs() {
         let from = numbers.next_type()?;
         let to = numbers.next_type()?;
         match book.enter_link(from, to) {
-            Ok(Entry::New) => print!(rt, " new")?,
-            Ok(Entry::Known) => print!(rt, " known")?,
+            Ok(Entry::New) => print!(rt; " new")?,
+            Ok(Entry::Known) => print!(rt; " known")?,
             Err(refusal) => say_refusal(rt, refusal)?,
         }
     }
@@ -44,9 +44,9 @@ pub fn run_back(
 ) -> anyhow::Result<()> {
     let types = numbers.next_type()?;
     let links = numbers.next()? as usize;
-    print!(rt, "back:")?;
+    print!(rt; "back:")?;
     match book.take_back(types, links) {
-        Ok(()) => print!(rt, " done")?,
+        Ok(()) => print!(rt; " done")?,
         Err(refusal) => say_refusal(rt, refusal)?,
     }
     println!(rt; "")?;
@@ -55,10 +55,10 @@ pub fn run_back(
 
 fn say_refusal(rt: &HostRuntime, refusal: Refusal) -> anyhow::Result<()> {
     match refusal {
-        Refusal::NoTypePlace => print!(rt, " no-type-place")?,
-        Refusal::NoLinkPlace => print!(rt, " no-link-place")?,
-        Refusal::NotBelow { number, types } => print!(rt, " {number}-not-below-{types}")?,
-        Refusal::NotEntered => print!(rt, " not-entered")?,
+        Refusal::NoTypePlace => print!(rt; " no-type-place")?,
+        Refusal::NoLinkPlace => print!(rt; " no-link-place")?,
+        Refusal::NotBelow { number, types } => print!(rt; " {number}-not-below-{types}")?,
+        Refusal::NotEntered => print!(rt; " not-entered")?,
     }
     Ok(())
 }

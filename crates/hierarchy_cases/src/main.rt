@@ -1,5 +1,7 @@
 // Runs a script of steps on numbered books, and prints a line for each step.
 // A step is a word and its numbers; `book` begins a new book, over new tables.
+#![tactic(auto)]
+
 mod case;
 mod entering;
 mod numbers;

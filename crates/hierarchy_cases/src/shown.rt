@@ -13,17 +13,17 @@ const PRIME: u64 = 1_000_000_007;
 // Prints what the chain index answers to the pairs that follow, and first whether the book is settled.
 pub fn run_asks(rt: &HostRuntime, book: &Hierarchy, numbers: &mut Numbers) -> anyhow::Result<()> {
     match book.settled_chains() {
-        Ok(chains) => print!(rt, "of {chains} chains:")?,
-        Err(_) => print!(rt, "refused 12:")?,
+        Ok(chains) => print!(rt; "of {chains} chains:")?,
+        Err(_) => print!(rt; "refused 12:")?,
     }
     let mut index = book.chain_index();
     for _ in 0..numbers.pairs() {
         let a = numbers.next_type()?;
         let b = numbers.next_type()?;
         match index.related(a, b) {
-            Ok(true) => print!(rt, " yes")?,
-            Ok(false) => print!(rt, " no")?,
-            Err(refusal) => print!(rt, " ({refusal})")?,
+            Ok(true) => print!(rt; " yes")?,
+            Ok(false) => print!(rt; " no")?,
+            Err(refusal) => print!(rt; " ({refusal})")?,
         }
     }
     println!(rt; "")?;
@@ -33,8 +33,7 @@ pub fn run_asks(rt: &HostRuntime, book: &Hierarchy, numbers: &mut Numbers) -> an
 // Prints the counts and the tables, each whole; the loop table only while no loop was written.
 pub fn run_tables(rt: &HostRuntime, case: &Case) -> anyhow::Result<()> {
     let book = &case.book;
-    print!(
-        rt,
+    print!(rt;
         "book {}: {} types, {} links",
         book.number(),
         book.types(),
@@ -57,15 +56,15 @@ pub fn run_tables(rt: &HostRuntime, case: &Case) -> anyhow::Result<()> {
 // The name of a table, its length and its entries, or their sum.
 fn show(rt: &HostRuntime, name: &str, entries: &[u16]) -> anyhow::Result<()> {
     let length = entries.len();
-    print!(rt, "; {name} {length}")?;
+    print!(rt; "; {name} {length}")?;
     if length > MOST_SHOWN {
-        print!(rt, " sum {}", sum_of(entries))?;
+        print!(rt; " sum {}", sum_of(entries))?;
         return Ok(());
     }
     for entry in entries {
         match *entry {
-            u16::MAX => print!(rt, " -")?,
-            number => print!(rt, " {number}")?,
+            u16::MAX => print!(rt; " -")?,
+            number => print!(rt; " {number}")?,
         }
     }
     Ok(())
@@ -73,13 +72,13 @@ fn show(rt: &HostRuntime, name: &str, entries: &[u16]) -> anyhow::Result<()> {
 
 fn show_links(rt: &HostRuntime, links: &[Link]) -> anyhow::Result<()> {
     let length = links.len();
-    print!(rt, "; links {length}")?;
+    print!(rt; "; links {length}")?;
     if length > MOST_SHOWN {
-        print!(rt, " sum {}", link_sum_of(links))?;
+        print!(rt; " sum {}", link_sum_of(links))?;
         return Ok(());
     }
     for link in links {
-        print!(rt, " {}-{}", link.from, link.to)?;
+        print!(rt; " {}-{}", link.from, link.to)?;
     }
     Ok(())
 }

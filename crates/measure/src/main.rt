@@ -1,4 +1,6 @@
 // Measures the larger tasks, and prints the times on standard error.
+#![tactic(auto)]
+
 mod settles;
 mod shapes;
 mod texts_read;

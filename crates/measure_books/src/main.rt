@@ -1,4 +1,6 @@
 // Measures the book by names, and prints the times on standard error.
+#![tactic(auto)]
+
 mod books;
 
 use books::measure_books;

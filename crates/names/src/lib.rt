@@ -1,4 +1,6 @@
 // The names of a book's types, over a byte pool and a name table that the host makes.
+#![tactic(auto)]
+
 mod compare;
 pub mod entering;
 pub mod facts;

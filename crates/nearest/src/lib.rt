@@ -1,4 +1,6 @@
 // The nearest common base of two types of a settled register, by their names.
+#![tactic(auto)]
+
 ghost use Rattle.std.specs.Prelude.{◌≡◌, ℕ, ◌<◌, ◌≤◌, true, length, is_some, ◌≢◌, slice_index};
 ghost use Rattle.descent.specs.Layers.{Gated};
 ghost use Rattle.descent.specs.Nearests.{Nearest};

@@ -1,4 +1,6 @@
 // Printing a book: its names, and its kept links by name.
+#![tactic(auto)]
+
 ghost use Rattle.std.specs.Prelude.{◌≡◌, length};
 ghost use Rattle.names.specs.Held.{names_in};
 ghost use Rattle.rows.specs.KeptEntries.{marked};

@@ -1,4 +1,6 @@
 // What printing and loading mean together: a printed book reads back.
+#![tactic(auto)]
+
 ghost use Rattle.printing_meaning.specs.LawfulNames.{LinesHoldLawfulNames, TextsEnterLawfulNames};
 ghost use Rattle.printing_meaning.specs.RoundTrip.{PrintedBooksReadBack, MarkedLinksArePrintable};
 

@@ -1,4 +1,6 @@
 // Printing what is settled: the names, and the kept links by name.
+#![tactic(auto)]
+
 ghost use Rattle.std.specs.Prelude.{◌≡◌, length};
 ghost use Rattle.register.specs.Contents.{contents_of};
 ghost use Rattle.printout.specs.Printouts.{printout_answer, output_after};

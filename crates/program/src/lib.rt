@@ -1,4 +1,6 @@
 // What the program answers to an input, as bytes: the text of the settled register, or what is refused.
+#![tactic(auto)]
+
 ghost use Rattle.std.specs.Prelude.{◌≡◌, IfOk, vec_len};
 ghost use Rattle.printing.specs.Printed.{printed};
 ghost use Rattle.register.specs.Contents.{contents_of};

@@ -1,5 +1,7 @@
 // Runs the program's call on each case of standard input, and prints what it answers.
 // A case is a line `case LENGTH`, so many bytes, and byte 10.
+#![tactic(auto)]
+
 use anyhow::anyhow;
 use program::answer;
 use std::alloc::Global;

@@ -1,4 +1,6 @@
 // Replays the script on standard input on one book.
+#![tactic(auto)]
+
 use script::replay::replayed;
 use std::io;
 use std::io::{Read, Write};

@@ -1,4 +1,6 @@
 // Scripts of calls on a book: reading them, and what is printed when they are replayed.
+#![tactic(auto)]
+
 pub mod calls;
 pub mod line;
 pub mod method;

@@ -1,4 +1,6 @@
 // Vetting a declaration text: what the program answers to an input, as bytes.
+#![tactic(auto)]
+
 ghost use Rattle.std.specs.Prelude.{◌≡◌, ◌+◌, ◌^◌, ◌<◌, ◌≤◌, cond, ◌++◌, map, length, IfOk, vec_len, codes, OnOk};
 ghost use Rattle.grammar.specs.Declarations.{name_of, names_of};
 ghost use Rattle.grammar.specs.Reading.{reading};

@@ -1,4 +1,6 @@
 // Vets the declaration text on standard input.
+#![tactic(auto)]
+
 use std::io;
 use std::io::{Read, Write};
 use vetting::{MAX_INPUT, vet};

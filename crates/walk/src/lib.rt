@@ -1,4 +1,6 @@
 // The plain walk: an answerer that searches a list of links.
+#![tactic(auto)]
+
 pub mod marks;
 pub mod pile;
 pub mod search;

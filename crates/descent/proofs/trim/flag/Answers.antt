@@ -3,13 +3,13 @@ use Rattle.descent.specs.Answers.{Same}
 use Rattle.descent.specs.Links.{no_link}
 use Rattle.descent.proofs.Flagging.{Unimplied, same_trans, unimplied_more}
 use Rattle.descent.proofs.trim.flag.Goals as goal
-use Rattle.descent.proofs.trim.flag.Goals.{else-is-rival-via-then-is-rival+else-ask, else-is-rival-via-else-is-rival}
+use Rattle.descent.proofs.trim.flag.Goals.{else-is_rival-via-then-is_rival+else-ask, else-is_rival-via-else-is_rival}
 
 pub returns-then-ask : goal.returns-then-ask
 returns-then-ask g c =
     let R : g.row.A.Denot → ℕ → ℕ → Type 0 = g.A.Answerer.relates in
     let inv = c.loop-k.invariant in
-    let rival = c.if-is-rival.ensures in
+    let rival = c.if-is_rival.ensures in
     let asked = c.if-ask.ensures in
     record {
       count = asked.count ∙ inv.0;
@@ -27,15 +27,15 @@ loop-k-preserved g c =
     let inv = c.loop-k.invariant in
     let Turn : g.row.A.Denot → Type 0 = λ s. (m.count s ≡ m.count s0) × Same (R s) (R s0) × Unimplied links (R s0) c.args.link (c.loop-k.k + 1) in
     let more = unimplied_more links (R s0) c.args.link c.loop-k.k c.loop-k-test.true inv.2 in
-    elim c.else-is-rival.branch [
-      | else-is-rival-via-then-is-rival+else-ask w ↦
+    elim c.else-is_rival.branch [
+      | else-is_rival-via-then-is_rival+else-ask w ↦
           let asked = w.if-ask.ensures in
           subst Turn (sym w.answerer-is) (
             asked.count ∙ inv.0,
             same_trans (R w.ask.new.answerer) (R s1) (R s0) asked.relation inv.1,
             more (λ _ r. asked.answer ((inv.1 _ _).1 r)),
           )
-      | else-is-rival-via-else-is-rival w ↦
+      | else-is_rival-via-else-is_rival w ↦
           subst Turn (sym w.answerer-is)
-          (inv.0, inv.1, more (λ rival _. w.if-is-rival.ensures rival))
+          (inv.0, inv.1, more (λ rival _. w.if-is_rival.ensures rival))
     ]

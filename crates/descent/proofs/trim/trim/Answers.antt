@@ -8,7 +8,7 @@ pub flag-flag-requires : goal.flag-flag-requires
 flag-flag-requires g c =
     let links = c.args.links.now in
     let within : Within links (g.A.Answerer.count c.loop-i.answerer) =
-    subst (Within links) (c.types.ensures ∙ sym c.loop-i.invariant.0) (trim_within c.types.result links (length c.args.flags.now) c.in-ok-check-trim.ensures) in
+    subst (Within links) (c.types.ensures ∙ sym c.loop-i.invariant.0) (trim_within c.types.result links (length c.args.flags.now) c.in_ok-check_trim.ensures) in
     record { links = within; link = (within c.loop-i.i c.loop-i-test.true).1 }
 
 pub loop-i-preserved : goal.loop-i-preserved
@@ -23,7 +23,7 @@ loop-i-preserved g c =
     let flags = c.loop-i.flags in
     let inv = c.loop-i.invariant in
     let e = c.flag-flag.ensures in
-    let room : i < length flags = omega (arith, trim_room c.types.result links (length c.args.flags.now) c.in-ok-check-trim.ensures) in
+    let room : i < length flags = omega (arith, trim_room c.types.result links (length c.args.flags.now) c.in_ok-check_trim.ensures) in
     let here : Flag v (Implied links (R s0) (get_or links i no_link)) = flag_like links (R s1) (R s0) (get_or links i no_link) v inv.1 e.flag in (
       e.count ∙ inv.0,
       same_trans (R c.flag-flag.new.answerer) (R s1) (R s0) e.relation inv.1,
