@@ -3,8 +3,8 @@ use Rattle.register.specs.Contents.{contents_of}
 use Rattle.nearest.proofs.Nearests.{asked}
 use Rattle.nearest.proofs.nearest_by_names.Goals as goal
 
-pub nearest-number-requires : goal.nearest-number-requires
-nearest-number-requires c =
+pub nearest_number-requires : goal.nearest_number-requires
+nearest_number-requires c =
     let d = contents_of c.args.register.now in
-    let h = asked d.settled d.entries.names c.args.first.now c.args.second.now c.in-ok-a.a c.in-ok-a.b (sym c.in-ok-a.ensures) in
+    let h = asked d.settled d.entries.names c.args.first.now c.args.second.now c.in_ok-a.a c.in_ok-a.b (sym c.in_ok-a.ensures) in
     record { settled = ap is_some h.is; first = h.first; second = h.second }

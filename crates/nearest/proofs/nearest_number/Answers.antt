@@ -33,8 +33,8 @@ read_order r book types table s e t o =
     let w : table ≡ (contents_of r).written.order = o ∙ ap (λ (b : Hierarchy). (book_of b).written.order) e in
     (n, subst (λ (k : ℕ). Ordered k (contents_of r).entries.links table) (sym n) (subst (Ordered (length (contents_of r).entries.names) (contents_of r).entries.links) (sym w) (settled_order r s)))
 
-pub fill-ranks-requires : goal.fill-ranks-requires
-fill-ranks-requires c =
+pub fill_ranks-requires : goal.fill_ranks-requires
+fill_ranks-requires c =
     let r = c.args.register.now in
     let links = (contents_of r).entries.links in
     let n = c.types.result in
@@ -65,5 +65,5 @@ found_is r book types indexed links table levels a b found s e t o i l ranks fir
 
 pub returns : goal.returns
 returns c =
-    found_is c.args.register.now c.numbered-book.result.now c.types.result c.chain-index.result.types c.chain-index.result.links.now c.order.result.now c.fill-ranks.new.ranks c.args.a c.args.b c.nearest-gated.result
-    c.requires.settled c.numbered-book.ensures c.types.ensures c.order.ensures c.chain-index.ensures.types c.chain-index.ensures.links c.fill-ranks.ensures c.requires.first c.requires.second c.nearest-gated.ensures
+    found_is c.args.register.now c.numbered-book.result.now c.types.result c.chain_index.result.types c.chain_index.result.links.now c.order.result.now c.fill_ranks.new.ranks c.args.a c.args.b c.nearest_gated.result
+    c.requires.settled c.numbered-book.ensures c.types.ensures c.order.ensures c.chain_index.ensures.types c.chain_index.ensures.links c.fill_ranks.ensures c.requires.first c.requires.second c.nearest_gated.ensures

@@ -26,4 +26,4 @@ over_new x t n e = record {
 }
 
 pub returns : goal.returns
-returns c = over_new (contents_of c.new.result) c.in-ok-tables.tables c.in-ok-tables.ensures c.new.ensures
+returns c = over_new (contents_of c.new.result) c.in_ok-tables.tables c.in_ok-tables.ensures c.new.ensures

@@ -27,14 +27,14 @@ read_text r names book kept table count n b k t m =
 
 pub returns-in-Ok : goal.returns-in-Ok
 returns-in-Ok c =
-    let before = c.deref-mut.result.now in
+    let before = c.deref_mut.result.now in
     let after = c.print.new.out in
-    let text = printed (names_in c.names.result.now) (marked c.kept.result.now (take (c.link-count.result - 0) c.link-table.result.now)) in
-    let own = read_text c.args.register.now c.names.result.now c.numbered-book.result.now c.kept.result.now c.link-table.result.now c.link-count.result
-    c.names.ensures c.numbered-book.ensures c.kept.ensures c.link-table.ensures c.link-count.ensures in
+    let text = printed (names_in c.names.result.now) (marked c.kept.result.now (take (c.link_count.result - 0) c.link_table.result.now)) in
+    let own = read_text c.args.register.now c.names.result.now c.numbered-book.result.now c.kept.result.now c.link_table.result.now c.link_count.result
+    c.names.ensures c.numbered-book.ensures c.kept.ensures c.link_table.ensures c.link_count.ensures in
     let front = printed_front text before (length before) refl c.in-Ok.length after c.in-Ok.ensures.answer c.in-Ok.ensures.output in
-    let size : length before ≡ 8192 = c.deref-mut.ensures.len ∙ c.in-ok-out.ensures in
+    let size : length before ≡ 8192 = c.deref_mut.ensures.len ∙ c.in_ok-out.ensures in
     let fits : ltb 8192 (length text) ≡ false = subst (λ (n : ℕ). ltb n (length text) ≡ false) size front.0 in
     c.truncate.ensures.items
-    ∙ ap (take c.in-Ok.length) (take_at after (drop (length after) (vec_items c.in-ok-out.out)) c.in-ok-out.out.len (front.2 ∙ c.deref-mut.ensures.len))
+    ∙ ap (take c.in-Ok.length) (take_at after (drop (length after) (vec_items c.in_ok-out.out)) c.in_ok-out.out.len (front.2 ∙ c.deref_mut.ensures.len))
     ∙ front.1 ∙ text_shown text fits ∙ ap shown_text own

@@ -45,13 +45,13 @@ pub returns-in-Ok : goal.returns-in-Ok
 returns-in-Ok c =
     let before = contents_of c.args.register.now in
     let after = contents_of c.settle.new.self in
-    let shown = settled_shown before after c.deref-mut.result.now c.deref-mut-2.result.now c.settle.new.table c.settle.new.scratch c.in-Ok.field-0 c.in-Ok.ensures in
-    IfOk-weaker c.print-register.result (λ v. vec_items v ≡ shown_contents after) (λ v. vec_items v ≡ shown_entries before.entries) (λ v e. e ∙ shown) c.print-register.ensures
+    let shown = settled_shown before after c.deref_mut.result.now c.deref_mut-2.result.now c.settle.new.table c.settle.new.scratch c.in-Ok.field-0 c.in-Ok.ensures in
+    IfOk-weaker c.print_register.result (λ v. vec_items v ≡ shown_contents after) (λ v. vec_items v ≡ shown_entries before.entries) (λ v e. e ∙ shown) c.print_register.ensures
 
 pub returns : goal.returns
 returns c =
     let r = c.args.register.now in
-    let shown = unsettled_shown r (contents_of c.settle.new.self) c.deref-mut.result.now c.deref-mut-2.result.now c.settle.new.table c.settle.new.scratch c.in-Err.unsettled c.requires
-    (c.deref-mut.ensures.len ∙ c.in-ok-table.ensures) (c.deref-mut-2.ensures.len ∙ c.in-ok-scratch.ensures) c.in-Err.ensures in
-    IfOk-weaker c.refused-without-place.result (λ v. vec_items v ≡ shown_report (placeless c.report.result.number)) (λ v. vec_items v ≡ shown_entries (contents_of r).entries)
-    (λ v e. e ∙ ap (λ (x : Report). shown_report (placeless x.number)) c.report.ensures ∙ shown) c.refused-without-place.ensures
+    let shown = unsettled_shown r (contents_of c.settle.new.self) c.deref_mut.result.now c.deref_mut-2.result.now c.settle.new.table c.settle.new.scratch c.in-Err.unsettled c.requires
+    (c.deref_mut.ensures.len ∙ c.in_ok-table.ensures) (c.deref_mut-2.ensures.len ∙ c.in_ok-scratch.ensures) c.in-Err.ensures in
+    IfOk-weaker c.refused_without_place.result (λ v. vec_items v ≡ shown_report (placeless c.report.result.number)) (λ v. vec_items v ≡ shown_entries (contents_of r).entries)
+    (λ v e. e ∙ ap (λ (x : Report). shown_report (placeless x.number)) c.report.ensures ∙ shown) c.refused_without_place.ensures

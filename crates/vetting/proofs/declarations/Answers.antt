@@ -9,10 +9,10 @@ use Rattle.vetting.proofs.declarations.Goals as goal
 pub loop-line-init : goal.loop-line-init
 loop-line-init c =
     let t = c.args.text.now in
-    let all : lines_left (option_map (λ x. x.now) c.into-iter-line-iterator.result.rest) ≡ lines_of t = ap (λ s. lines_left (option_map (λ x. x.now) s.rest)) c.into-iter-line-iterator.ensures.into-iter-gives ∙ c.of-line-items.ensures in (
+    let all : lines_left (option_map (λ x. x.now) c.into_iter-line-iterator.result.rest) ≡ lines_of t = ap (λ s. lines_left (option_map (λ x. x.now) s.rest)) c.into_iter-line-iterator.ensures.into_iter-gives ∙ c.of-line-items.ensures in (
       tt,
       tt,
-      ap (λ o. with_lines (record { shown = o; declarations = 0; lines = 0 }) (lines_left (option_map (λ x. x.now) c.into-iter-line-iterator.result.rest))) c.new-out.ensures.items ∙ ap (with_lines none) all,
+      ap (λ o. with_lines (record { shown = o; declarations = 0; lines = 0 }) (lines_left (option_map (λ x. x.now) c.into_iter-line-iterator.result.rest))) c.new-out.ensures.items ∙ ap (with_lines none) all,
       omega arith,
       omega (arith, lines_count t, ap length all),
     )
@@ -22,6 +22,6 @@ returns c =
     let out = vec_items c.loop-line.out in
     let tally : Tally = record { shown = out; declarations = c.loop-line.declarations; lines = c.loop-line.lines } in
     let whole : tally ≡ with_lines none (lines_of c.args.text.now) = sym (ap (with_lines tally) c.in-None.ensures.steps) ∙ c.loop-line.invariant.2 in
-    c.in-ok-extend-from-slice.ensures.items
-    ∙ ap (λ b. out ++ b) (c.as-bytes.ensures.value ∙ c.in-ok-counts.ensures.ok)
+    c.in_ok-extend_from_slice.ensures.items
+    ∙ ap (λ b. out ++ b) (c.as_bytes.ensures.value ∙ c.in_ok-counts.ensures.ok)
     ∙ ap shown_tally whole

@@ -16,10 +16,10 @@ bounds-chain-base c = omega (arith, found c, c.loop-step.invariant.1)
 pub bounds-position-base : goal.bounds-position-base
 bounds-position-base c = omega (arith, found c, c.loop-step.invariant.2)
 
-pub returns-in-default : goal.returns-in-default
-returns-in-default c =
+pub returns-in_default : goal.returns-in_default
+returns-in_default c =
     let w = line c.loop-step.last c.loop-step.step c.loop-step.chain c.loop-step.position in
-    let e = sym (lengthened_none c.args.ranked.now.links.now c.args.ranked.now.order.now c.args.c w (sym c.in-default.ensures) (c.args.ranked.now.types - c.loop-step.step)) ∙ c.loop-step.invariant.0 in
+    let e = sym (lengthened_none c.args.ranked.now.links.now c.args.ranked.now.order.now c.args.c w (sym c.in_default.ensures) (c.args.ranked.now.types - c.loop-step.step)) ∙ c.loop-step.invariant.0 in
     record { chains = ap (λ (x : Line). x.chains) e; positions = ap (λ (x : Line). x.positions) e }
 
 pub loop-step-preserved : goal.loop-step-preserved

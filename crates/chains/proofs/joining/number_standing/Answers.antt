@@ -7,8 +7,8 @@ use Rattle.chains.specs.Counts.{passing_le, passing_next_yes, passing_next_no}
 use Rattle.chains.proofs.joining.number_standing.Goals as goal
 use Rattle.chains.proofs.joining.number_standing.Goals.{then-last-d, else-last-d}
 
-pub overflow-add-standing : goal.overflow-add-standing
-overflow-add-standing c = omega (arith, c.loop-d.invariant.1, passing_le c.loop-d.d (has_last c.args.last.now))
+pub overflow_add-standing : goal.overflow_add-standing
+overflow_add-standing c = omega (arith, c.loop-d.invariant.1, passing_le c.loop-d.d (has_last c.args.last.now))
 
 pub loop-d-preserved : goal.loop-d-preserved
 loop-d-preserved c =

@@ -10,6 +10,6 @@ returns g c =
     let after = state_of c.settle-settled.new.self in
     let h = c.settle-settled.ensures in
     let Gives = g.D.Decomposer.gives c.args.decomposer.now in
-    settle_moves Gives before after (length c.deref-mut.result.now) (length c.deref-mut-2.result.now) c.args.table c.args.scratch c.settle-settled.result
-    (c.deref-mut.ensures.len ∙ c.in-ok-loop-table.ensures.len) (c.deref-mut-2.ensures.len ∙ c.in-ok-memory.ensures.len)
-    h.told (settle_setup Gives before after c.deref-mut.result.now c.deref-mut-2.result.now c.settle-settled.new.table c.settle-settled.new.scratch c.settle-settled.result h.settles)
+    settle_moves Gives before after (length c.deref_mut.result.now) (length c.deref_mut-2.result.now) c.args.table c.args.scratch c.settle-settled.result
+    (c.deref_mut.ensures.len ∙ c.in_ok-loop_table.ensures.len) (c.deref_mut-2.ensures.len ∙ c.in_ok-memory.ensures.len)
+    h.told (settle_setup Gives before after c.deref_mut.result.now c.deref_mut-2.result.now c.settle-settled.new.table c.settle-settled.new.scratch c.settle-settled.result h.settles)

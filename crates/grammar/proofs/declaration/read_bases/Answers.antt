@@ -12,45 +12,45 @@ loop-bases-init c =
     let s = c.args.s.now in
     (c.requires.within, λ ns. ap (λ l. onward s c.args.start (in_name base fresh 0) (recalled s l c.args.start c.args.start)) (sym (ap (λ l. ns ++ map name_of l) c.new-bases.ensures.items ∙ append-nil ns)))
 
-pub returns-in-err-end : goal.returns-in-err-end
-returns-in-err-end c =
-    λ ns. fault_left (with_bases ns) _ c.from-residual.result c.in-err-end.field-0.0 c.from-residual.ensures.1
-    (c.loop-bases.invariant.1 ns ∙ c.in-err-end.ensures base (ns ++ map name_of (vec_items c.loop-bases.bases)))
+pub returns-in_err-end : goal.returns-in_err-end
+returns-in_err-end c =
+    λ ns. fault_left (with_bases ns) _ c.from-residual.result c.in_err-end.field-0.0 c.from-residual.ensures.1
+    (c.loop-bases.invariant.1 ns ∙ c.in_err-end.ensures base (ns ++ map name_of (vec_items c.loop-bases.bases)))
 
-pub returns-in-err-push : goal.returns-in-err-push
-returns-in-err-push c = λ ns. memory_left (with_bases ns) _ c.from-residual-in-err-push.result c.from-residual-in-err-push.ensures.1
+pub returns-in_err-push : goal.returns-in_err-push
+returns-in_err-push c = λ ns. memory_left (with_bases ns) _ c.from-residual-in_err-push.result c.from-residual-in_err-push.ensures.1
 
-pub returns-in-err-next : goal.returns-in-err-next
-returns-in-err-next c =
+pub returns-in_err-next : goal.returns-in_err-next
+returns-in_err-next c =
     let s = c.args.s.now in
-    let n = c.in-ok-end.ensures in
+    let n = c.in_ok-end.ensures in
     λ ns. let ms = ns ++ map name_of (vec_items c.loop-bases.bases) in
-    fault_left (with_bases ns) _ c.from-residual-in-err-next.result c.in-err-next.field-0.0 c.from-residual-in-err-next.ensures.1
-    (c.loop-bases.invariant.1 ns ∙ n.goes base ms ∙ c.in-err-next.ensures (recalled s ms c.loop-bases.pos c.in-ok-end.end))
+    fault_left (with_bases ns) _ c.from-residual-in_err-next.result c.in_err-next.field-0.0 c.from-residual-in_err-next.ensures.1
+    (c.loop-bases.invariant.1 ns ∙ n.goes base ms ∙ c.in_err-next.ensures (recalled s ms c.loop-bases.pos c.in_ok-end.end))
 
 pub loop-bases-preserved : goal.loop-bases-preserved
 loop-bases-preserved c =
     let s = c.args.s.now in
     let f = c.loop-bases.pos in
-    let e = c.in-ok-end.end in
-    let n = c.in-ok-end.ensures in
-    let x = subst (λ o. NextRead base s e (Ok o)) c.in-Some.is c.in-ok-next.ensures in
+    let e = c.in_ok-end.end in
+    let n = c.in_ok-end.ensures in
+    let x = subst (λ o. NextRead base s e (Ok o)) c.in-Some.is c.in_ok-next.ensures in
     let items = vec_items c.loop-bases.bases in (
       x.1,
       λ ns. let ms = ns ++ map name_of items in
           c.loop-bases.invariant.1 ns ∙ n.goes base ms ∙ then_base s base ms f e c.in-Some.next x
           ∙ ap (λ l. onward s c.in-Some.next (in_name base fresh 0) (recalled s l c.in-Some.next c.in-Some.next))
-          (one_more_name s ns items (vec_items c.push.new.self) f e _ c.in-ok-push.ensures.items refl),
+          (one_more_name s ns items (vec_items c.push.new.self) f e _ c.in_ok-push.ensures.items refl),
     )
 
 pub returns-in-None : goal.returns-in-None
 returns-in-None c =
     let s = c.args.s.now in
     let f = c.loop-bases.pos in
-    let e = c.in-ok-end.end in
-    let n = c.in-ok-end.ensures in
-    let x = subst (λ o. NextRead base s e (Ok o)) c.in-None.is c.in-ok-next.ensures in
+    let e = c.in_ok-end.end in
+    let n = c.in_ok-end.ensures in
+    let x = subst (λ o. NextRead base s e (Ok o)) c.in-None.is c.in_ok-next.ensures in
     let items = vec_items c.loop-bases.bases in
     λ ns. let ms = ns ++ map name_of items in
     c.loop-bases.invariant.1 ns ∙ n.goes base ms ∙ x (recalled s ms f e)
-    ∙ ap lawful (one_more_name s ns items (vec_items c.push.new.self) f e _ c.in-ok-push.ensures.items refl)
+    ∙ ap lawful (one_more_name s ns items (vec_items c.push.new.self) f e _ c.in_ok-push.ensures.items refl)

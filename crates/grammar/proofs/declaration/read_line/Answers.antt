@@ -9,20 +9,20 @@ use Rattle.grammar.proofs.declaration.read_line.Goals as goal
 pub returns-in-empty : goal.returns-in-empty
 returns-in-empty c = ap reading (nil_from_length c.args.line.now (omega (arith, ltb-true, ltb-false)))
 
-pub returns-in-err-check-comment : goal.returns-in-err-check-comment
-returns-in-err-check-comment c =
-    fault_left all_names_of _ c.from-residual.result c.in-err-check-comment.field-0.0 c.from-residual.ensures.1
-    (comment_first c.args.line.now (omega (arith, ltb-true, ltb-false)) (omega (arith, ltb-true, ltb-false)) ∙ c.in-err-check-comment.ensures)
+pub returns-in_err-check_comment : goal.returns-in_err-check_comment
+returns-in_err-check_comment c =
+    fault_left all_names_of _ c.from-residual.result c.in_err-check_comment.field-0.0 c.from-residual.ensures.1
+    (comment_first c.args.line.now (omega (arith, ltb-true, ltb-false)) (omega (arith, ltb-true, ltb-false)) ∙ c.in_err-check_comment.ensures)
 
-pub returns-in-ok-check-comment : goal.returns-in-ok-check-comment
-returns-in-ok-check-comment c =
-    comment_first c.args.line.now (omega (arith, ltb-true, ltb-false)) (omega (arith, ltb-true, ltb-false)) ∙ c.in-ok-check-comment.ensures
+pub returns-in_ok-check_comment : goal.returns-in_ok-check_comment
+returns-in_ok-check_comment c =
+    comment_first c.args.line.now (omega (arith, ltb-true, ltb-false)) (omega (arith, ltb-true, ltb-false)) ∙ c.in_ok-check_comment.ensures
 
-pub returns-in-err-declaration : goal.returns-in-err-declaration
-returns-in-err-declaration c =
-    unread_left names_of all_names_of _ _ c.in-err-declaration.field-0.0 c.from-residual-in-err-declaration.result c.from-residual-in-err-declaration.ensures.1
-    (name_first c.args.line.now (omega (arith, ltb-true, ltb-false)) (omega (arith, ltb-true, ltb-false))) c.in-err-declaration.ensures
+pub returns-in_err-declaration : goal.returns-in_err-declaration
+returns-in_err-declaration c =
+    unread_left names_of all_names_of _ _ c.in_err-declaration.field-0.0 c.from-residual-in_err-declaration.result c.from-residual-in_err-declaration.ensures.1
+    (name_first c.args.line.now (omega (arith, ltb-true, ltb-false)) (omega (arith, ltb-true, ltb-false))) c.in_err-declaration.ensures
 
-pub returns-in-ok-declaration : goal.returns-in-ok-declaration
-returns-in-ok-declaration c =
-    name_first c.args.line.now (omega (arith, ltb-true, ltb-false)) (omega (arith, ltb-true, ltb-false)) ∙ c.in-ok-declaration.ensures
+pub returns-in_ok-declaration : goal.returns-in_ok-declaration
+returns-in_ok-declaration c =
+    name_first c.args.line.now (omega (arith, ltb-true, ltb-false)) (omega (arith, ltb-true, ltb-false)) ∙ c.in_ok-declaration.ensures

@@ -10,8 +10,8 @@ returns-in-empty c = sym (ap (λ l. verdict (reading l)) (nil_from_length c.args
 
 pub returns-in-35 : goal.returns-in-35
 returns-in-35 c =
-    comment_verdict _ c.check-comment.result c.check-comment.ensures
+    comment_verdict _ c.check_comment.result c.check_comment.ensures
     ∙ sym (ap verdict (comment_first c.args.line.now (omega (arith, ltb-true, ltb-false)) (omega (arith, ltb-true, ltb-false))))
 
 pub returns-in-len1-up : goal.returns-in-len1-up
-returns-in-len1-up c = c.check-declaration.ensures ∙ sym (ap verdict (name_first c.args.line.now (omega (arith, ltb-true, ltb-false)) (omega (arith, ltb-true, ltb-false))))
+returns-in-len1-up c = c.check_declaration.ensures ∙ sym (ap verdict (name_first c.args.line.now (omega (arith, ltb-true, ltb-false)) (omega (arith, ltb-true, ltb-false))))

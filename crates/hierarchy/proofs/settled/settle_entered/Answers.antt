@@ -6,8 +6,8 @@ use Rattle.settling.specs.Settling.{SettlesAs}
 use Rattle.hierarchy.proofs.LinkTables.{front_of, different_ends}
 use Rattle.hierarchy.proofs.settled.settle_entered.Goals as goal
 
-pub settle-tables-requires : goal.settle-tables-requires
-settle-tables-requires g c =
+pub settle_tables-requires : goal.settle_tables-requires
+settle_tables-requires g c =
     let e = c.args.entered.now in
     let front = front_of c.deref.result.now e.links.items e.count c.deref.ensures.value in
     record {
@@ -23,7 +23,7 @@ returns g c =
     subst
     (λ (l : List Link). SettlesAs (g.D.Decomposer.gives c.args.decomposer.now) e.types l
     (record { order = c.args.order.now; chain = c.args.chain.now; position = c.args.position.now; kept = c.args.kept.now; index = c.args.index.now; loop = c.args.table.now; scratch = c.args.scratch.now })
-    c.settle-tables.result
-    (record { order = c.settle-tables.new.order; chain = c.settle-tables.new.chain; position = c.settle-tables.new.position; kept = c.settle-tables.new.kept; index = c.settle-tables.new.index; loop = c.settle-tables.new.table; scratch = c.settle-tables.new.scratch }))
+    c.settle_tables.result
+    (record { order = c.settle_tables.new.order; chain = c.settle_tables.new.chain; position = c.settle_tables.new.position; kept = c.settle_tables.new.kept; index = c.settle_tables.new.index; loop = c.settle_tables.new.table; scratch = c.settle_tables.new.scratch }))
     (front_of c.deref.result.now e.links.items e.count c.deref.ensures.value)
-    c.settle-tables.ensures
+    c.settle_tables.ensures

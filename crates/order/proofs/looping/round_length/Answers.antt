@@ -9,7 +9,7 @@ loop-at-preserved c =
     let step = down c.args.links.now (unranked c.args.rank.now) in
     let steps = c.loop-at.steps in (
       omega arith,
-      c.unranked-subtype-at-in-loop-at.ensures ∙ ap step c.loop-at.invariant.1 ∙ sym (walked_more step c.args.start steps),
+      c.unranked_subtype-at-in-loop-at.ensures ∙ ap step c.loop-at.invariant.1 ∙ sym (walked_more step c.args.start steps),
       λ j h k e.
           ⊎_elim
           (λ (q : j ≡ steps). c.loop-at-test.true (c.loop-at.invariant.1 ∙ ap (walked step c.args.start) (sym q) ∙ e))

@@ -6,4 +6,4 @@ use Rattle.order.proofs.looping.walk_down.Goals as goal
 pub loop-preserved : goal.loop-preserved
 loop-preserved c =
     let step = down c.args.links.now (unranked c.args.rank.now) in
-    c.unranked-subtype-at.ensures ∙ ap step c.loop.invariant ∙ sym (walked_more step c.args.t c.loop.counter)
+    c.unranked_subtype-at.ensures ∙ ap step c.loop.invariant ∙ sym (walked_more step c.args.t c.loop.counter)

@@ -14,7 +14,7 @@ loop-i-preserved c =
     let table = c.loop-i.table in
     let below : place < steps = omega arith in
     let in' : place < length table = omega arith in (
-      c.unranked-subtype-at.ensures ∙ ap step c.loop-i.invariant.0 ∙ sym (walked_more step c.args.start i),
+      c.unranked_subtype-at.ensures ∙ ap step c.loop-i.invariant.0 ∙ sym (walked_more step c.args.start i),
       λ k h l.
           ⊎_elim
           (λ (q : k ≡ place).

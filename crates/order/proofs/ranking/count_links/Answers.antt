@@ -5,8 +5,8 @@ use Rattle.order.specs.Waiting.{waiting_of}
 use Rattle.order.proofs.Counts.{waiting_below, waiting_more}
 use Rattle.order.proofs.ranking.count_links.Goals as goal
 
-pub overflow-add-waiting : goal.overflow-add-waiting
-overflow-add-waiting c =
+pub overflow_add-waiting : goal.overflow_add-waiting
+overflow_add-waiting c =
     let i = c.loop-l.l-index in
     let t = (get_or c.args.links.now i no_link).to in
     let below : t < c.args.types = (c.requires.within i c.loop-l-test.true).1 in

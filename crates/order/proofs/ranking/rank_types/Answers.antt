@@ -5,7 +5,7 @@ use Rattle.order.proofs.ranking.rank_types.Goals as goal
 
 pub loop-t-init : goal.loop-t-init
 loop-t-init c =
-    (ranking_none (omega arith) (omega arith) (omega arith) c.set-all.ensures.set c.count-links.ensures.waits, refl, refl, refl)
+    (ranking_none (omega arith) (omega arith) (omega arith) c.set_all.ensures.set c.count_links.ensures.waits, refl, refl, refl)
 
 pub bounds-order-count : goal.bounds-order-count
 bounds-order-count c = omega (arith, next_place c.loop-t.invariant.0 c.in-Some.ensures, c.loop-t.invariant.0.places)
@@ -16,12 +16,12 @@ bounds-rank-t c = omega (arith, next_type_lem c.loop-t.invariant.0 c.in-Some.ens
 pub release-requires : goal.release-requires
 release-requires c = record {
   within = c.requires.within;
-  waiting-room = omega arith;
+  waiting_room = omega arith;
   counted = next_waits c.loop-t.invariant.0 c.in-Some.ensures;
 }
 
-pub overflow-add-count : goal.overflow-add-count
-overflow-add-count c = omega (arith, next_place c.loop-t.invariant.0 c.in-Some.ensures)
+pub overflow_add-count : goal.overflow_add-count
+overflow_add-count c = omega (arith, next_place c.loop-t.invariant.0 c.in-Some.ensures)
 
 pub loop-t-smaller : goal.loop-t-smaller
 loop-t-smaller c = omega (arith, next_place c.loop-t.invariant.0 c.in-Some.ensures)
@@ -39,12 +39,12 @@ loop-t-preserved c =
 pub returns : goal.returns
 returns c =
     let s = c.loop-t.invariant.0 in
-    let none = c.in-default.ensures in
+    let none = c.in_default.ensures in
     record {
       count = end_count s none;
       order = end_order s none;
-      order-rest = c.loop-t.invariant.1;
+      order_rest = c.loop-t.invariant.1;
       ranks = end_ranks s none;
-      ranks-rest = c.loop-t.invariant.2 ∙ c.set-all.ensures.rest;
-      waiting-rest = c.loop-t.invariant.3 ∙ c.count-links.ensures.rest ∙ c.set-all-2.ensures.rest;
+      ranks_rest = c.loop-t.invariant.2 ∙ c.set_all.ensures.rest;
+      waiting_rest = c.loop-t.invariant.3 ∙ c.count_links.ensures.rest ∙ c.set_all-2.ensures.rest;
     }

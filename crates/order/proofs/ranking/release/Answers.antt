@@ -6,8 +6,8 @@ use Rattle.order.proofs.Counts.{between_other, between_released, between_waits}
 use Rattle.order.proofs.ranking.release.Goals as goal
 use Rattle.order.proofs.ranking.release.Goals.{then-l-t, else-l-t}
 
-pub overflow-sub-waiting : goal.overflow-sub-waiting
-overflow-sub-waiting c =
+pub overflow_sub-waiting : goal.overflow_sub-waiting
+overflow_sub-waiting c =
     let i = c.loop-l.l-index in
     let u = (get_or c.args.links.now i no_link).to in
     let below : u < c.args.types = (c.requires.within i c.loop-l-test.true).1 in

@@ -14,7 +14,7 @@ loop-i-preserved c =
     let from : List Link → ℕ → ℕ = λ ls k. lowest_base ls c.args.of c.args.least k in
     let rest = marked (drop (i + 1) kept) (drop (i + 1) links) in
     elim c.if-i-kept.branch [
-      | then-i-kept+then-kept-i-eq1 w ↦ ap (from rest) (w.lowest-is ∙ w.lower-end-lowest.ensures) ∙ sym (ap (λ ls. from ls c.loop-i.lowest) (marked_hit links kept i (omega arith) (omega (arith, w.if-i-kept.true)) w.if-kept-i-eq1.true)) ∙ c.loop-i.invariant
+      | then-i-kept+then-kept-i-eq1 w ↦ ap (from rest) (w.lowest-is ∙ w.lower_end-lowest.ensures) ∙ sym (ap (λ ls. from ls c.loop-i.lowest) (marked_hit links kept i (omega arith) (omega (arith, w.if-i-kept.true)) w.if-kept-i-eq1.true)) ∙ c.loop-i.invariant
       | else-i-kept w ↦
           elim w.else-i-kept.branch [
             | else-i-kept-via-then-i-kept+else-kept-i-eq1 w' ↦ ap (from rest) w.lowest-is ∙ sym (ap (λ ls. from ls c.loop-i.lowest) (marked_miss links kept i (omega arith) (λ h. w'.if-kept-i-eq1.false))) ∙ c.loop-i.invariant

@@ -13,18 +13,18 @@ use Rattle.printing.proofs.writing.put_book.Goals as goal
 sayable : (n : Names) (links : List Link) → EndFits (printed (names_in n) links) 0
 sayable n links = let h = holds_itself n in omega (arith, printed-short (names_in n) links h.few_types.1 h.few_bytes.1)
 
-pub put-names-named-requires : goal.put-names-named-requires
-put-names-named-requires c =
+pub put_names-named-requires : goal.put_names-named-requires
+put_names-named-requires c =
     let names = names_in c.args.names.now in
     let links = marked c.args.kept.now c.args.links.now in
     goes_says (name_lines names) (type_lines links names 0 names) (goes_start 0 (printed names links) c.args.out.now) (sayable c.args.names.now links)
 
-pub put-types-requires : goal.put-types-requires
-put-types-requires c =
+pub put_types-requires : goal.put_types-requires
+put_types-requires c =
     let names = names_in c.args.names.now in
     let links = marked c.args.kept.now c.args.links.now in
     let lines = type_lines links names 0 names in
-    let named = goes_on (name_lines names) lines _ _ (goes_start 0 (printed names links) c.args.out.now) c.put-names-named.auto.out c.put-names-named.ensures in
+    let named = goes_on (name_lines names) lines _ _ (goes_start 0 (printed names links) c.args.out.now) c.put_names-named.auto.out c.put_names-named.ensures in
     goes_says lines [] (goes_as (lines ++ []) (sym (append-nil lines)) named) (sayable c.args.names.now links)
 
 pub returns : goal.returns
@@ -32,5 +32,5 @@ returns c =
     let names = names_in c.args.names.now in
     let links = marked c.args.kept.now c.args.links.now in
     let lines = type_lines links names 0 names in
-    let named = goes_on (name_lines names) lines _ _ (goes_start 0 (printed names links) c.args.out.now) c.put-names-named.auto.out c.put-names-named.ensures in
-    goes_end (goes_on lines [] _ _ (goes_as (lines ++ []) (sym (append-nil lines)) named) c.put-types.auto.out c.put-types.ensures)
+    let named = goes_on (name_lines names) lines _ _ (goes_start 0 (printed names links) c.args.out.now) c.put_names-named.auto.out c.put_names-named.ensures in
+    goes_end (goes_on lines [] _ _ (goes_as (lines ++ []) (sym (append-nil lines)) named) c.put_types.auto.out c.put_types.ensures)

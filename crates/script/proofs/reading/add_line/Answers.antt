@@ -3,6 +3,6 @@ use Rattle.script.proofs.reading.add_line.Goals as goal
 
 pub returns : goal.returns
 returns c =
-    c.in-ok-push.ensures.items
-    ∙ ap (λ l. l ++ (10 ∷ [])) c.in-ok-extend-from-slice.ensures.items
+    c.in_ok-push.ensures.items
+    ∙ ap (λ l. l ++ (10 ∷ [])) c.in_ok-extend_from_slice.ensures.items
     ∙ append_assoc (vec_items c.args.text.now) c.args.line.now (10 ∷ [])

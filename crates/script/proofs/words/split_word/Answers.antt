@@ -7,7 +7,7 @@ use Rattle.script.proofs.words.split_word.Goals as goal
 pub returns-then-end-line : goal.returns-then-end-line
 returns-then-end-line c =
     let t = c.args.line.now in
-    let n = c.word-length-end.result in
+    let n = c.word_length-end.result in
     let e : n ≡ word_length t = omega arith in
     let z : n - 0 ≡ word_length t = omega arith in
     record {

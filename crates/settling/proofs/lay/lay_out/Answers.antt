@@ -7,21 +7,21 @@ use Rattle.settling.proofs.lay.lay_out.Goals as goal
 
 pub returns-then-ranked-types : goal.returns-then-ranked-types
 returns-then-ranked-types g c =
-    let r = c.rank-types-ranked.ensures in
+    let r = c.rank_types-ranked.ensures in
     record {
-      laid = record { unranked = omega arith; written = c.find-loop.ensures.written; bound = c.find-loop.ensures.bound; rest = c.find-loop.ensures.rest };
-      order-rest = leaves_more _ _ c.rank-types-ranked.result c.args.types (omega arith) r.order-rest;
+      laid = record { unranked = omega arith; written = c.find_loop.ensures.written; bound = c.find_loop.ensures.bound; rest = c.find_loop.ensures.rest };
+      order_rest = leaves_more _ _ c.rank_types-ranked.result c.args.types (omega arith) r.order_rest;
       chain_rest = refl;
       position_rest = refl;
-      kept-rest = refl;
+      kept_rest = refl;
     }
 
-pub sort-falling-requires : goal.sort-falling-requires
-sort-falling-requires g c =
+pub sort_falling-requires : goal.sort_falling-requires
+sort_falling-requires g c =
     let n = c.args.types in
     let links = c.args.links.now in
-    let whole : length (order_of n links) ≡ n = omega (arith, order_fits n links, c.rank-types-ranked.ensures.count) in
-    let ranked = whole_ranked n links c.rank-types-ranked.new.rank c.requires.within whole c.requires.few c.rank-types-ranked.ensures.ranks in
+    let whole : length (order_of n links) ≡ n = omega (arith, order_fits n links, c.rank_types-ranked.ensures.count) in
+    let ranked = whole_ranked n links c.rank_types-ranked.new.rank c.requires.within whole c.requires.few c.rank_types-ranked.ensures.ranks in
     record {
       within = c.requires.within;
       few = omega arith;
@@ -30,35 +30,35 @@ sort-falling-requires g c =
       room = omega arith;
     }
 
-pub slice-bounds-view-end : goal.slice-bounds-view-end
-slice-bounds-view-end g c = omega (arith, order_fits c.args.types c.args.links.now)
+pub slice_bounds-view-end : goal.slice_bounds-view-end
+slice_bounds-view-end g c = omega (arith, order_fits c.args.types c.args.links.now)
 
 pub decompose-requires : goal.decompose-requires
 decompose-requires g c =
     let n = c.args.types in
     let links = c.args.links.now in
-    let rank = c.rank-types-ranked.new.rank in
-    let whole : length (order_of n links) ≡ n = omega (arith, order_fits n links, c.rank-types-ranked.ensures.count) in
+    let rank = c.rank_types-ranked.new.rank in
+    let whole : length (order_of n links) ≡ n = omega (arith, order_fits n links, c.rank_types-ranked.ensures.count) in
     record {
       few = c.requires.few;
       ranked =
-          subst (λ (o : List ℕ). Ranked n links o rank) (sym (front_of c.rank-types-ranked.new.order c.rank-types-ranked.result ∙ c.rank-types-ranked.ensures.order))
-          (whole_ranked n links rank c.requires.within whole c.requires.few c.rank-types-ranked.ensures.ranks);
-      falling = subst (λ (f : List ℕ). Falling links rank f) (sym (front_of c.sort-falling.new.table (length links))) c.sort-falling.ensures.falling;
+          subst (λ (o : List ℕ). Ranked n links o rank) (sym (front_of c.rank_types-ranked.new.order c.rank_types-ranked.result ∙ c.rank_types-ranked.ensures.order))
+          (whole_ranked n links rank c.requires.within whole c.requires.few c.rank_types-ranked.ensures.ranks);
+      falling = subst (λ (f : List ℕ). Falling links rank f) (sym (front_of c.sort_falling.new.table (length links))) c.sort_falling.ensures.falling;
       rank_room = omega arith;
-      scratch-room = omega arith;
-      chain-room = omega arith;
-      position-room = omega arith;
+      scratch_room = omega arith;
+      chain_room = omega arith;
+      position_room = omega arith;
     }
 
 pub returns : goal.returns
 returns g c =
     let n = c.args.types in
     let links = c.args.links.now in
-    let r = c.rank-types-ranked.ensures in
+    let r = c.rank_types-ranked.ensures in
     let whole : length (order_of n links) ≡ n = omega (arith, order_fits n links, r.count) in
-    let all : c.rank-types-ranked.result ≡ n = omega (arith, r.count) in
-    let order = c.rank-types-ranked.new.order in
+    let all : c.rank_types-ranked.result ≡ n = omega (arith, r.count) in
+    let order = c.rank_types-ranked.new.order in
     let d = c.decompose.ensures in
     record {
       laid = (
@@ -68,13 +68,13 @@ returns g c =
           ranks = r.ranks;
           given =
               subst (λ (o : List ℕ). g.D.Decomposer.gives c.args.decomposer.now n links o (take n c.decompose.new.chain) (take n c.decompose.new.position) c.decompose.result)
-              (front_of order c.rank-types-ranked.result ∙ r.order) d.given;
+              (front_of order c.rank_types-ranked.result ∙ r.order) d.given;
           few = d.count;
         },
         refl,
       );
-      order-rest = leaves_more order c.args.order.now c.rank-types-ranked.result n (omega arith) r.order-rest;
+      order_rest = leaves_more order c.args.order.now c.rank_types-ranked.result n (omega arith) r.order_rest;
       chain_rest = d.chain_rest;
       position_rest = d.position_rest;
-      kept-rest = c.sort-falling.ensures.rest;
+      kept_rest = c.sort_falling.ensures.rest;
     }

@@ -8,7 +8,7 @@ use Rattle.texts.proofs.text.split_line.Goals as goal
 pub returns-then-end-text : goal.returns-then-end-text
 returns-then-end-text c =
     let t = c.args.text.now in
-    let n = c.line-length-end.result in
+    let n = c.line_length-end.result in
     let e : line_length t ≡ n = omega arith in
     let z : n ≡ n - 0 = omega arith in
     lines_more t (omega arith)

@@ -8,9 +8,9 @@ returns c =
     let n = c.args.ranked.now.types in
     record {
       given =
-          same_places refl (front_take c.args.chain.now c.lay-chains.new.chain n c.requires.chain-room c.lay-chains.auto.chain)
-          (front_take c.args.position.now c.lay-chains.new.position n c.requires.position-room c.lay-chains.auto.position) ∙ c.lay-chains.ensures.laid;
-      count = c.lay-chains.ensures.count;
-      chain_rest = front_rest c.args.chain.now c.lay-chains.new.chain n c.requires.chain-room c.lay-chains.auto.chain;
-      position_rest = front_rest c.args.position.now c.lay-chains.new.position n c.requires.position-room c.lay-chains.auto.position;
+          same_places refl (front_take c.args.chain.now c.lay_chains.new.chain n c.requires.chain_room c.lay_chains.auto.chain)
+          (front_take c.args.position.now c.lay_chains.new.position n c.requires.position_room c.lay_chains.auto.position) ∙ c.lay_chains.ensures.laid;
+      count = c.lay_chains.ensures.count;
+      chain_rest = front_rest c.args.chain.now c.lay_chains.new.chain n c.requires.chain_room c.lay_chains.auto.chain;
+      position_rest = front_rest c.args.position.now c.lay_chains.new.position n c.requires.position_room c.lay_chains.auto.position;
     }

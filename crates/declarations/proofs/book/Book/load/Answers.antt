@@ -4,8 +4,8 @@ use Rattle.declarations.specs.Books.{state_of}
 use Rattle.declarations.proofs.Loading.{Stays, load_stays, load_goes}
 use Rattle.declarations.proofs.book.Book.load.Goals as goal
 
-pub invariant-of-self : goal.invariant-of-self
-invariant-of-self c =
+pub invariant_of-self : goal.invariant_of-self
+invariant_of-self c =
     let self = c.args.self.now in
     let s = load_stays self.mark (contents_of self.register) (contents_of c.load.new.self) c.args.shipped.now c.args.own.now self.marked_types self.marked_links self.marked_within c.load.result c.load.ensures in
     (s.types, (s.links, (s.within, tt)))

@@ -9,19 +9,19 @@ use Rattle.declarations.specs.Books.{state_of}
 use Rattle.declarations.proofs.Going.{Opened, trial_opened, not_some, mark_within}
 use Rattle.declarations.proofs.book.Book.open.Goals as goal
 
-pub invariant-of-self : goal.invariant-of-self
-invariant-of-self c =
+pub invariant_of-self : goal.invariant_of-self
+invariant_of-self c =
     let r = c.args.self.now.register in
     let t : c.count.result ≡ length (contents_of r).entries.names = c.count.ensures ∙ ap (λ n. length (names_in n)) c.names.ensures in
-    let l : c.link-count.result ≡ length (contents_of r).entries.links = c.link-count.ensures ∙ ap (λ (h : Hierarchy). h.entered.count) c.numbered.ensures ∙ sym (length-take-le (book_of r.numbered).held.count (book_of r.numbered).held.table (links_few r)) in
-    (omega (arith, t), (omega (arith, l), (mark_within (contents_of r) c.count.result c.link-count.result (links_within r) t l, tt)))
+    let l : c.link_count.result ≡ length (contents_of r).entries.links = c.link_count.ensures ∙ ap (λ (h : Hierarchy). h.entered.count) c.numbered.ensures ∙ sym (length-take-le (book_of r.numbered).held.count (book_of r.numbered).held.table (links_few r)) in
+    (omega (arith, t), (omega (arith, l), (mark_within (contents_of r) c.count.result c.link_count.result (links_within r) t l, tt)))
 
 pub returns : goal.returns
 returns c =
     let self = c.args.self.now in
     let r = self.register in
     let t : c.count.result ≡ length (contents_of r).entries.names = c.count.ensures ∙ ap (λ n. length (names_in n)) c.names.ensures in
-    let l : c.link-count.result ≡ length (contents_of r).entries.links = c.link-count.ensures ∙ ap (λ (h : Hierarchy). h.entered.count) c.numbered.ensures ∙ sym (length-take-le (book_of r.numbered).held.count (book_of r.numbered).held.table (links_few r)) in
+    let l : c.link_count.result ≡ length (contents_of r).entries.links = c.link_count.ensures ∙ ap (λ (h : Hierarchy). h.entered.count) c.numbered.ensures ∙ sym (length-take-le (book_of r.numbered).held.count (book_of r.numbered).held.table (links_few r)) in
     let n : c.number.result ≡ (contents_of r).number = c.number.ensures ∙ ap (λ (h : Hierarchy). h.number) c.numbered-2.ensures in
-    let o = trial_opened (state_of self) c.count.result c.link-count.result c.number.result (not_some self.mark (sym c.is-some.ensures ∙ c.if-is-some.false)) (omega arith) t l n in
+    let o = trial_opened (state_of self) c.count.result c.link_count.result c.number.result (not_some self.mark (sym c.is_some.ensures ∙ c.if-is_some.false)) (omega arith) t l n in
     record { answer = o.answer; after = o.after; told = o.told }

@@ -8,7 +8,7 @@ pub unreachable-requires : goal.unreachable-requires
 unreachable-requires c =
     let self = c.args.self.now in
     let h = c.in-Ok.ensures in
-    let same : contents_of c.end-trial.new.self.register ≡ contents_of self.register = ap (λ (s : State). s.contents) h.2 in
+    let same : contents_of c.end_trial.new.self.register ≡ contents_of self.register = ap (λ (s : State). s.contents) h.2 in
     let ok = back_to_mark self.mark c.in-Ok.mark (contents_of self.register) h.1 self.marked_types self.marked_links self.marked_within in
-    let e = c.in-Err-take-back.ensures.answer ∙ ap (λ x. back_answer x c.in-Ok.mark.types c.in-Ok.mark.links) same ∙ ok in
+    let e = c.in-Err-take_back.ensures.answer ∙ ap (λ x. back_answer x c.in-Ok.mark.types c.in-Ok.mark.links) same ∙ ok in
     let z : ◌≡◌ {A = ℕ} 0 1 = cc in omega arith

@@ -9,18 +9,18 @@ use Rattle.hierarchy.specs.Entering.{cleared, left_answer}
 use Rattle.hierarchy.proofs.LinkTables.{front_of, refilled_is, cleared_front, cleared_zero, distinct_front}
 use Rattle.hierarchy.proofs.entered.Entered.take_back.Goals as goal
 
-pub invariant-of-self : goal.invariant-of-self
-invariant-of-self c =
+pub invariant_of-self : goal.invariant_of-self
+invariant_of-self c =
     let s = c.args.self.now in
     let xs = s.links.items in
     let k = c.args.links in
     let len = s.links.ok.0 in
     let fit : k ≤ length xs = omega arith in
-    let ws = c.clear-links.new.links in
+    let ws = c.clear_links.new.links in
     let after : take s.links.len (ws ++ drop (length ws) xs) ≡ cleared k xs =
-    refilled_is xs ws c.deref-mut.result.now s.links.len c.clear-links.auto.links c.deref-mut.ensures.len ∙ c.clear-links.ensures ∙ ap (cleared k) c.deref-mut.ensures.value in
+    refilled_is xs ws c.deref_mut.result.now s.links.len c.clear_links.auto.links c.deref_mut.ensures.len ∙ c.clear_links.ensures ∙ ap (cleared k) c.deref_mut.ensures.value in
     let front : take k (take s.links.len (ws ++ drop (length ws) xs)) ≡ take k xs = ap (take k) after ∙ cleared_front xs k fit in
-    let none : stray_end c.args.types (take k xs) ≡ None = ap (stray_end c.args.types) (sym (front_of c.deref.result.now xs k c.deref.ensures.value)) ∙ sym c.in-default.ensures in (
+    let none : stray_end c.args.types (take k xs) ≡ None = ap (stray_end c.args.types) (sym (front_of c.deref.result.now xs k c.deref.ensures.value)) ∙ sym c.in_default.ensures in (
       (omega arith, omega arith),
       (
         (omega arith, omega arith),
@@ -39,10 +39,10 @@ returns c =
     let s = c.args.self.now in
     let xs = s.links.items in
     let k = c.args.links in
-    let ws = c.clear-links.new.links in
+    let ws = c.clear_links.new.links in
     let after : take s.links.len (ws ++ drop (length ws) xs) ≡ cleared k xs =
-    refilled_is xs ws c.deref-mut.result.now s.links.len c.clear-links.auto.links c.deref-mut.ensures.len ∙ c.clear-links.ensures ∙ ap (cleared k) c.deref-mut.ensures.value in
-    let none : stray_end c.args.types (take k xs) ≡ None = ap (stray_end c.args.types) (sym (front_of c.deref.result.now xs k c.deref.ensures.value)) ∙ sym c.in-default.ensures in
+    refilled_is xs ws c.deref_mut.result.now s.links.len c.clear_links.auto.links c.deref_mut.ensures.len ∙ c.clear_links.ensures ∙ ap (cleared k) c.deref_mut.ensures.value in
+    let none : stray_end c.args.types (take k xs) ≡ None = ap (stray_end c.args.types) (sym (front_of c.deref.result.now xs k c.deref.ensures.value)) ∙ sym c.in_default.ensures in
     record {
       answer =
           sym (ap (λ t. cond (t || ltb s.count k) (Err NotEntered) (left_answer (stray_end c.args.types (take k xs)) c.args.types)) (le-ltb s.types c.args.types (omega arith))

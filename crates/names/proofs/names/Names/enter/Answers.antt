@@ -14,34 +14,34 @@ returns-in-Some c =
       unchanged = refl;
     }
 
-pub returns-in-err-check-place : goal.returns-in-err-check-place
-returns-in-err-check-place c =
+pub returns-in_err-check_place : goal.returns-in_err-check_place
+returns-in_err-check_place c =
     let n = c.args.self.now in
     let p = err_from_is_err_and c.from-residual.result c.from-residual.ensures.1 in
     rw (p.1, p.2)
     record {
-      answer = answers_refused n c.args.bytes.now c.in-err-check-place.field-0.0 c.in-default.ensures c.in-err-check-place.ensures;
+      answer = answers_refused n c.args.bytes.now c.in_err-check_place.field-0.0 c.in_default.ensures c.in_err-check_place.ensures;
       after = holds_itself n;
       unchanged = refl;
     }
 
-pub index-mut-requires : goal.index-mut-requires
-index-mut-requires c = has_entry_lem c.args.self.now c.args.bytes.now c.in-ok-check-place.ensures
+pub index_mut-requires : goal.index_mut-requires
+index_mut-requires c = has_entry_lem c.args.self.now c.args.bytes.now c.in_ok-check_place.ensures
 
-pub invariant-of-self : goal.invariant-of-self
-invariant-of-self c =
+pub invariant_of-self : goal.invariant_of-self
+invariant_of-self c =
     let laid =
-    laid_entered c.args.self.now c.args.bytes.now c.in-default.ensures c.in-ok-check-place.ensures
-    c.write-bytes.new.pool c.deref-mut.result.now c.write-bytes.ensures c.deref-mut.ensures.value (c.write-bytes.auto.pool ∙ c.deref-mut.ensures.len) in
+    laid_entered c.args.self.now c.args.bytes.now c.in_default.ensures c.in_ok-check_place.ensures
+    c.write_bytes.new.pool c.deref_mut.result.now c.write_bytes.ensures c.deref_mut.ensures.value (c.write_bytes.auto.pool ∙ c.deref_mut.ensures.len) in
     laid_kept _ _ _ _ _ _ _ laid
 
 pub returns : goal.returns
 returns c =
     let laid =
-    laid_entered c.args.self.now c.args.bytes.now c.in-default.ensures c.in-ok-check-place.ensures
-    c.write-bytes.new.pool c.deref-mut.result.now c.write-bytes.ensures c.deref-mut.ensures.value (c.write-bytes.auto.pool ∙ c.deref-mut.ensures.len) in
+    laid_entered c.args.self.now c.args.bytes.now c.in_default.ensures c.in_ok-check_place.ensures
+    c.write_bytes.new.pool c.deref_mut.result.now c.write_bytes.ensures c.deref_mut.ensures.value (c.write_bytes.auto.pool ∙ c.deref_mut.ensures.len) in
     record {
-      answer = answers_new c.args.self.now c.args.bytes.now c.in-default.ensures c.in-ok-check-place.ensures;
+      answer = answers_new c.args.self.now c.args.bytes.now c.in_default.ensures c.in_ok-check_place.ensures;
       after = holds_laid _ _ _ _ refl refl laid;
       unchanged = tt;
     }

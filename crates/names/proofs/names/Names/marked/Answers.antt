@@ -3,8 +3,8 @@ use Rattle.names.specs.Tables.{part}
 use Rattle.names.proofs.Keeping.{marked_end, marked_part}
 use Rattle.names.proofs.names.Names.marked.Goals as goal
 
-pub slice-bounds-result-end : goal.slice-bounds-result-end
-slice-bounds-result-end c =
+pub slice_bounds-result-end : goal.slice_bounds-result-end
+slice_bounds-result-end c =
     let n = c.args.self.now in
     let s = c.index-span.result.now in
     let h : s.start + s.length ≤ length c.deref.result.now = omega (arith, c.deref.ensures.len, marked_end n c.args.number s c.requires.entered c.index-span.ensures) in

@@ -22,32 +22,32 @@ pub wipe-requires : goal.wipe-requires
 wipe-requires c =
     let n = c.args.self.now in
     record {
-      ordered = fewer_bytes n c.args.left c.bytes-of-first-bytes.result (omega arith) c.bytes-of-first-bytes.ensures;
-      within = omega (arith, c.deref-mut.ensures.len, n.few_bytes);
+      ordered = fewer_bytes n c.args.left c.bytes_of_first-bytes.result (omega arith) c.bytes_of_first-bytes.ensures;
+      within = omega (arith, c.deref_mut.ensures.len, n.few_bytes);
     }
 
-pub invariant-of-self : goal.invariant-of-self
-invariant-of-self c =
+pub invariant_of-self : goal.invariant_of-self
+invariant_of-self c =
     let n = c.args.self.now in
     let left = c.args.left in
-    let bytes = c.bytes-of-first-bytes.result in
+    let bytes = c.bytes_of_first-bytes.result in
     let few : left ≤ n.count = omega arith in
     let laid =
-    laid_left n left bytes few c.bytes-of-first-bytes.ensures
-    c.wipe.new.table c.deref-mut.result.now c.wipe.ensures c.deref-mut.ensures.value (c.wipe.auto.table ∙ c.deref-mut.ensures.len)
-    c.wipe-2.new.table c.deref-mut-2.result.now c.wipe-2.ensures c.deref-mut-2.ensures.value (c.wipe-2.auto.table ∙ c.deref-mut-2.ensures.len) in
+    laid_left n left bytes few c.bytes_of_first-bytes.ensures
+    c.wipe.new.table c.deref_mut.result.now c.wipe.ensures c.deref_mut.ensures.value (c.wipe.auto.table ∙ c.deref_mut.ensures.len)
+    c.wipe-2.new.table c.deref_mut-2.result.now c.wipe-2.ensures c.deref_mut-2.ensures.value (c.wipe-2.auto.table ∙ c.deref_mut-2.ensures.len) in
     laid_kept _ _ _ _ _ _ _ laid
 
 pub returns : goal.returns
 returns c =
     let n = c.args.self.now in
     let left = c.args.left in
-    let bytes = c.bytes-of-first-bytes.result in
+    let bytes = c.bytes_of_first-bytes.result in
     let few : left ≤ n.count = omega arith in
     let laid =
-    laid_left n left bytes few c.bytes-of-first-bytes.ensures
-    c.wipe.new.table c.deref-mut.result.now c.wipe.ensures c.deref-mut.ensures.value (c.wipe.auto.table ∙ c.deref-mut.ensures.len)
-    c.wipe-2.new.table c.deref-mut-2.result.now c.wipe-2.ensures c.deref-mut-2.ensures.value (c.wipe-2.auto.table ∙ c.deref-mut-2.ensures.len) in
+    laid_left n left bytes few c.bytes_of_first-bytes.ensures
+    c.wipe.new.table c.deref_mut.result.now c.wipe.ensures c.deref_mut.ensures.value (c.wipe.auto.table ∙ c.deref_mut.ensures.len)
+    c.wipe-2.new.table c.deref_mut-2.result.now c.wipe-2.ensures c.deref_mut-2.ensures.value (c.wipe-2.auto.table ∙ c.deref_mut-2.ensures.len) in
     record {
       answer = sym (cond-true (leb left (length (names_in n))) _ _ (le-leb left (length (names_in n)) (omega (arith, counted n))));
       after = holds_laid _ _ _ _ refl refl laid;

@@ -13,9 +13,9 @@ pub unreachable-requires : goal.unreachable-requires
 unreachable-requires c =
     let self = c.args.self.now in
     let start = contents_of self in
-    let f = found_below start.settled start.entries.names c.args.first.now c.args.second.now (c.in-ok-a.a, c.in-ok-a.b) (sym c.in-ok-a.ensures) in
-    let n : c.chain-index-index.result.types ≡ length start.entries.names = c.chain-index-index.ensures.types ∙ ap (types_of start.settled) self.named ∙ f.0 in
-    let r : question_refusal c.chain-index-index.result.types c.in-ok-a.a c.in-ok-a.b ≡ None = not_refused c.chain-index-index.result.types c.in-ok-a.a c.in-ok-a.b (omega (arith, n, f.1)) (omega (arith, n, f.2)) in
+    let f = found_below start.settled start.entries.names c.args.first.now c.args.second.now (c.in_ok-a.a, c.in_ok-a.b) (sym c.in_ok-a.ensures) in
+    let n : c.chain_index-index.result.types ≡ length start.entries.names = c.chain_index-index.ensures.types ∙ ap (types_of start.settled) self.named ∙ f.0 in
+    let r : question_refusal c.chain_index-index.result.types c.in_ok-a.a c.in_ok-a.b ≡ None = not_refused c.chain_index-index.result.types c.in_ok-a.a c.in_ok-a.b (omega (arith, n, f.1)) (omega (arith, n, f.2)) in
     let e : None ≡ Some c.in-Err.field-0 = sym r ∙ c.in-Err.ensures.answer in
     let z : ◌≡◌ {A = ℕ} 0 1 = cc in omega arith
 
@@ -23,6 +23,6 @@ pub returns : goal.returns
 returns c =
     let self = c.args.self.now in
     let start = contents_of self in
-    let a = c.in-ok-a.a in
-    let b = c.in-ok-a.b in
-    ap Ok (descent_told _ start.entries.links a b c.in-Ok.descends c.chain-index-index.ensures.links c.in-Ok.ensures.answer.1) ∙ ap (said_of start.entries.links) c.in-ok-a.ensures
+    let a = c.in_ok-a.a in
+    let b = c.in_ok-a.b in
+    ap Ok (descent_told _ start.entries.links a b c.in-Ok.descends c.chain_index-index.ensures.links c.in-Ok.ensures.answer.1) ∙ ap (said_of start.entries.links) c.in_ok-a.ensures

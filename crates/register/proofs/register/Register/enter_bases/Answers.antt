@@ -13,20 +13,20 @@ use Rattle.register.proofs.register.Register.enter_bases.Goals as goal
 pub loop-base-init : goal.loop-base-init
 loop-base-init c = record { grown = grown_refl (contents_of c.args.self.now) c.requires.unsettled; lacks = refl; enters = refl }
 
-pub enter-base-requires : goal.enter-base-requires
-enter-base-requires c = record { unsettled = still_unsettled c.loop-base.invariant.grown; entered = omega (arith, c.requires.entered, more_entered c.loop-base.invariant.grown) }
+pub enter_base-requires : goal.enter_base-requires
+enter_base-requires c = record { unsettled = still_unsettled c.loop-base.invariant.grown; entered = omega (arith, c.requires.entered, more_entered c.loop-base.invariant.grown) }
 
-pub returns-in-err-enter-base : goal.returns-in-err-enter-base
-returns-in-err-enter-base c =
+pub returns-in_err-enter_base : goal.returns-in_err-enter_base
+returns-in_err-enter_base c =
     let start = contents_of c.args.self.now in
-    let h = c.in-err-enter-base.ensures in
-    left_by (λ r. Enters (bases_lack c.args.source c.args.line c.args.from c.args.bases.now start) (bases_enter c.args.from c.args.bases.now start) start r (contents_of c.enter-base.new.self))
-    c.from-residual.result c.in-err-enter-base.field-0.0 c.from-residual.ensures.1
-    (bases_off c.args.source c.args.line c.args.from c.args.bases.now c.loop-base.base_index (record { column = 0; bytes = record { ref_ptr = (0, 0); now = [] } }) (omega arith) c.loop-base.invariant c.in-err-enter-base.field-0.0 h.0 h.1)
+    let h = c.in_err-enter_base.ensures in
+    left_by (λ r. Enters (bases_lack c.args.source c.args.line c.args.from c.args.bases.now start) (bases_enter c.args.from c.args.bases.now start) start r (contents_of c.enter_base.new.self))
+    c.from-residual.result c.in_err-enter_base.field-0.0 c.from-residual.ensures.1
+    (bases_off c.args.source c.args.line c.args.from c.args.bases.now c.loop-base.base_index (record { column = 0; bytes = record { ref_ptr = (0, 0); now = [] } }) (omega arith) c.loop-base.invariant c.in_err-enter_base.field-0.0 h.0 h.1)
 
 pub loop-base-preserved : goal.loop-base-preserved
 loop-base-preserved c =
-    let h = c.in-ok-enter-base.ensures in
+    let h = c.in_ok-enter_base.ensures in
     bases_on c.args.source c.args.line c.args.from c.args.bases.now c.loop-base.base_index (record { column = 0; bytes = record { ref_ptr = (0, 0); now = [] } }) (omega arith) c.loop-base.invariant h.0 h.1
 
 pub returns : goal.returns

@@ -9,24 +9,24 @@ use Rattle.register.proofs.Growth.{left_by}
 use Rattle.register.proofs.Going.{name_off, names_then, name_first}
 use Rattle.register.proofs.register.Register.enter_declaration.Goals as goal
 
-pub returns-in-err-from : goal.returns-in-err-from
-returns-in-err-from c =
+pub returns-in_err-from : goal.returns-in_err-from
+returns-in_err-from c =
     let start = contents_of c.args.self.now in
-    let h = c.in-err-from.ensures in
-    left_by (λ r. Enters (no_names start.room c.args.source c.args.line start.entries (names_of c.args.declaration.now)) (with_names start.entries (names_of c.args.declaration.now)) start r (contents_of c.enter-name.new.self))
-    c.from-residual.result c.in-err-from.field-0.0 c.from-residual.ensures.1
-    (name_off start (contents_of c.enter-name.new.self) c.args.source c.args.line (name_of c.args.declaration.now.name) (map name_of (vec_items c.args.declaration.now.bases)) c.in-err-from.field-0.0 c.requires.unsettled h)
+    let h = c.in_err-from.ensures in
+    left_by (λ r. Enters (no_names start.room c.args.source c.args.line start.entries (names_of c.args.declaration.now)) (with_names start.entries (names_of c.args.declaration.now)) start r (contents_of c.enter_name.new.self))
+    c.from-residual.result c.in_err-from.field-0.0 c.from-residual.ensures.1
+    (name_off start (contents_of c.enter_name.new.self) c.args.source c.args.line (name_of c.args.declaration.now.name) (map name_of (vec_items c.args.declaration.now.bases)) c.in_err-from.field-0.0 c.requires.unsettled h)
 
-pub enter-bases-requires : goal.enter-bases-requires
-enter-bases-requires c =
-    let f = name_first (contents_of c.args.self.now) (contents_of c.enter-name.new.self) c.args.declaration.now.name.bytes.now (place c.args.source c.args.line c.args.declaration.now.name.column) c.in-ok-from.from c.in-ok-from.ensures in
+pub enter_bases-requires : goal.enter_bases-requires
+enter_bases-requires c =
+    let f = name_first (contents_of c.args.self.now) (contents_of c.enter_name.new.self) c.args.declaration.now.name.bytes.now (place c.args.source c.args.line c.args.declaration.now.name.column) c.in_ok-from.from c.in_ok-from.ensures in
     record { unsettled = f.0; entered = f.1 }
 
 pub returns : goal.returns
 returns c =
     let start = contents_of c.args.self.now in
-    let middle = contents_of c.enter-name.new.self in
-    let after = contents_of c.enter-bases.new.self in
-    let number = c.in-ok-from.from in
-    let g = subst (λ bs. Enters (no_bases middle.room c.args.source c.args.line number middle.entries (map name_of bs)) (with_bases number middle.entries (map name_of bs)) middle c.enter-bases.result after) c.deref.ensures.value c.enter-bases.ensures in
-    names_then start middle after c.args.source c.args.line number (name_of c.args.declaration.now.name) (map name_of (vec_items c.args.declaration.now.bases)) c.enter-bases.result c.in-ok-from.ensures g
+    let middle = contents_of c.enter_name.new.self in
+    let after = contents_of c.enter_bases.new.self in
+    let number = c.in_ok-from.from in
+    let g = subst (λ bs. Enters (no_bases middle.room c.args.source c.args.line number middle.entries (map name_of bs)) (with_bases number middle.entries (map name_of bs)) middle c.enter_bases.result after) c.deref.ensures.value c.enter_bases.ensures in
+    names_then start middle after c.args.source c.args.line number (name_of c.args.declaration.now.name) (map name_of (vec_items c.args.declaration.now.bases)) c.enter_bases.result c.in_ok-from.ensures g

@@ -5,8 +5,8 @@ use Rattle.hierarchy.specs.Books.{Book, book_of}
 use Rattle.register.proofs.Parts.{contents_from, same_from, new_number, type_place, typed_book, name_known, name_new}
 use Rattle.register.proofs.register.Register.enter_name.Goals as goal
 
-pub invariant-of-self-in-New : goal.invariant-of-self-in-New
-invariant-of-self-in-New c =
+pub invariant_of-self-in-New : goal.invariant_of-self-in-New
+invariant_of-self-in-New c =
     let self = c.args.self.now in
     let size = pool_size self.names in
     let places = table_size self.names in
@@ -15,7 +15,7 @@ invariant-of-self-in-New c =
     let n = new_number size places names bytes c.in-New.number (sym c.in-Ok.ensures.answer ∙ ap Ok c.in-New.is) in
     let book = book_of self.numbered in
     let t = type_place size places names (length bytes) book.held self.named self.room n.1 in
-    let a = typed_book book (book_of c.enter-type.new.self) c.enter-type.result c.enter-type.ensures.answer c.enter-type.ensures.after t in
+    let a = typed_book book (book_of c.enter_type.new.self) c.enter_type.result c.enter_type.ensures.answer c.enter_type.ensures.after t in
     let h = c.in-Ok.ensures.after in
     let r = h.read ∙ ap (λ e. names_after names bytes (Ok e)) c.in-New.is in
     (omega (arith, ap (λ (b : Book). b.held.types) a, self.named, ap length r, length-append names (bytes ∷ [])), (ap (λ (b : Book). b.held.room) a ∙ self.room ∙ sym h.table_size_is, tt))

@@ -13,27 +13,27 @@ pub loop-line-init : goal.loop-line-init
 loop-line-init c =
     let t = c.args.text.now in
     let start = contents_of c.args.self.now in
-    let all : lines_left (option_map (λ x. x.now) c.into-iter-line-iterator.result.rest) ≡ lines_of t = ap (λ s. lines_left (option_map (λ x. x.now) s.rest)) c.into-iter-line-iterator.ensures.into-iter-gives ∙ c.of-line-items.ensures in
+    let all : lines_left (option_map (λ x. x.now) c.into_iter-line-iterator.result.rest) ≡ lines_of t = ap (λ s. lines_left (option_map (λ x. x.now) s.rest)) c.into_iter-line-iterator.ensures.into_iter-gives ∙ c.of-line-items.ensures in
     (tt, tt, record { grown = grown_refl start c.requires.unsettled; lacks = ap (λ ls. lines_lack c.args.source 1 ls start) all; enters = ap (λ ls. lines_enter ls start) all }, omega (arith, lines_count t, ap length all))
 
-pub enter-line-requires : goal.enter-line-requires
-enter-line-requires c = record { unsettled = still_unsettled c.loop-line.invariant.2.grown }
+pub enter_line-requires : goal.enter_line-requires
+enter_line-requires c = record { unsettled = still_unsettled c.loop-line.invariant.2.grown }
 
-pub returns-in-err-enter-line : goal.returns-in-err-enter-line
-returns-in-err-enter-line c =
+pub returns-in_err-enter_line : goal.returns-in_err-enter_line
+returns-in_err-enter_line c =
     let start = contents_of c.args.self.now in
-    let next = contents_of c.enter-line.new.self in
+    let next = contents_of c.enter_line.new.self in
     left_by (λ r. EntersUnless (lines_lack c.args.source 1 (lines_of c.args.text.now) start) (lines_enter (lines_of c.args.text.now) start) start r next)
-    c.from-residual.result c.in-err-enter-line.field-0.0 c.from-residual.ensures.1
-    (lines_off c.args.source c.loop-line.number (lines_left (option_map (λ x. x.now) c.loop-line.line-iterator.rest)) c.in-Some.line.now (lines_left (option_map (λ x. x.now) c.next.new.self.rest)) c.in-Some.ensures.steps next c.loop-line.invariant.2 c.in-err-enter-line.field-0.0 c.in-err-enter-line.ensures)
+    c.from-residual.result c.in_err-enter_line.field-0.0 c.from-residual.ensures.1
+    (lines_off c.args.source c.loop-line.number (lines_left (option_map (λ x. x.now) c.loop-line.line-iterator.rest)) c.in-Some.line.now (lines_left (option_map (λ x. x.now) c.next.new.self.rest)) c.in-Some.ensures.steps next c.loop-line.invariant.2 c.in_err-enter_line.field-0.0 c.in_err-enter_line.ensures)
 
 pub loop-line-preserved : goal.loop-line-preserved
 loop-line-preserved c =
-    let h = c.in-ok-enter-line.ensures in
+    let h = c.in_ok-enter_line.ensures in
     let step = c.in-Some.ensures.steps in (
       tt,
       tt,
-      lines_on c.args.source c.loop-line.number (lines_left (option_map (λ x. x.now) c.loop-line.line-iterator.rest)) c.in-Some.line.now (lines_left (option_map (λ x. x.now) c.next.new.self.rest)) step (contents_of c.enter-line.new.self) c.loop-line.invariant.2 h.0 h.1,
+      lines_on c.args.source c.loop-line.number (lines_left (option_map (λ x. x.now) c.loop-line.line-iterator.rest)) c.in-Some.line.now (lines_left (option_map (λ x. x.now) c.next.new.self.rest)) step (contents_of c.enter_line.new.self) c.loop-line.invariant.2 h.0 h.1,
       omega (arith, ap length step, c.loop-line.invariant.3),
     )
 

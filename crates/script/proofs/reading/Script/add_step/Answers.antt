@@ -8,4 +8,4 @@ pub returns : goal.returns
 returns c =
     let r = reading_of c.args.self.now in
     let with-steps : List Doing → Reading = λ l. record { lengths = r.lengths; steps = l; shipped_lines = r.shipped_lines; own_lines = r.own_lines; tickets = r.tickets } in
-    ap (λ l. with-steps (map doing l)) c.in-ok-push.ensures.items ∙ ap with-steps (map-append doing (vec_items c.args.self.now.steps) (c.args.step ∷ []))
+    ap (λ l. with-steps (map doing l)) c.in_ok-push.ensures.items ∙ ap with-steps (map-append doing (vec_items c.args.self.now.steps) (c.args.step ∷ []))

@@ -1,7 +1,7 @@
 use Rattle.walk.proofs.Tables.{clear_refilled}
 use Rattle.walk.proofs.walk.WalkAnswerer.related.Goals as goal
 
-pub invariant-of-self : goal.invariant-of-self
-invariant-of-self c =
+pub invariant_of-self : goal.invariant_of-self
+invariant_of-self c =
     let s = c.args.self.now in
-    (s.within, (s.room, (clear_refilled s.marks.items c.search.new.marks c.deref-mut.result.now s.marks.len c.search.auto.marks c.deref-mut.ensures.len c.search.ensures.clear, tt)))
+    (s.within, (s.room, (clear_refilled s.marks.items c.search.new.marks c.deref_mut.result.now s.marks.len c.search.auto.marks c.deref_mut.ensures.len c.search.ensures.clear, tt)))
