@@ -15,16 +15,16 @@ loop-t-preserved c =
     let j = c.if-chain-t in
     elim j.branch [
       | then-chain-t x ↦ (
-        ap (laid n links order (drop (i + 1) order)) (same_places x.count_is (x.chain-is ∙ x.lengthen.ensures.chains) (x.position-is ∙ x.lengthen.ensures.positions))
+        ap (laid n links order (drop (i + 1) order)) (same_places x.count-is (x.chain-is ∙ x.lengthen.ensures.chains) (x.position-is ∙ x.lengthen.ensures.positions))
             ∙ laid_new n links order i s c.loop-t-test.true x.if-chain-t.true ∙ c.loop-t.invariant.0,
-        omega (arith, x.count_is, c.loop-t.invariant.1),
+        omega (arith, x.count-is, c.loop-t.invariant.1),
         j.auto.chain ∙ c.loop-t.invariant.2,
         j.auto.position ∙ c.loop-t.invariant.3,
       )
       | else-chain-t x ↦ (
-        ap (laid n links order (drop (i + 1) order)) (same_places x.count_is x.chain-is x.position-is)
+        ap (laid n links order (drop (i + 1) order)) (same_places x.count-is x.chain-is x.position-is)
             ∙ laid_on n links order i s c.loop-t-test.true x.if-chain-t.false ∙ c.loop-t.invariant.0,
-        omega (arith, x.count_is, c.loop-t.invariant.1),
+        omega (arith, x.count-is, c.loop-t.invariant.1),
         j.auto.chain ∙ c.loop-t.invariant.2,
         j.auto.position ∙ c.loop-t.invariant.3,
       )

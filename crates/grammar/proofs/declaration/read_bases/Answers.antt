@@ -14,18 +14,18 @@ loop-bases-init c =
 
 pub returns-in_err-end : goal.returns-in_err-end
 returns-in_err-end c =
-    λ ns. fault_left (with_bases ns) _ c.from-residual.result c.in_err-end.field-0.0 c.from-residual.ensures.1
+    λ ns. fault_left (with_bases ns) _ c.from_residual.result c.in_err-end.field-0.0 c.from_residual.ensures.1
     (c.loop-bases.invariant.1 ns ∙ c.in_err-end.ensures base (ns ++ map name_of (vec_items c.loop-bases.bases)))
 
 pub returns-in_err-push : goal.returns-in_err-push
-returns-in_err-push c = λ ns. memory_left (with_bases ns) _ c.from-residual-in_err-push.result c.from-residual-in_err-push.ensures.1
+returns-in_err-push c = λ ns. memory_left (with_bases ns) _ c.from_residual-in_err-push.result c.from_residual-in_err-push.ensures.1
 
 pub returns-in_err-next : goal.returns-in_err-next
 returns-in_err-next c =
     let s = c.args.s.now in
     let n = c.in_ok-end.ensures in
     λ ns. let ms = ns ++ map name_of (vec_items c.loop-bases.bases) in
-    fault_left (with_bases ns) _ c.from-residual-in_err-next.result c.in_err-next.field-0.0 c.from-residual-in_err-next.ensures.1
+    fault_left (with_bases ns) _ c.from_residual-in_err-next.result c.in_err-next.field-0.0 c.from_residual-in_err-next.ensures.1
     (c.loop-bases.invariant.1 ns ∙ n.goes base ms ∙ c.in_err-next.ensures (recalled s ms c.loop-bases.pos c.in_ok-end.end))
 
 pub loop-bases-preserved : goal.loop-bases-preserved

@@ -11,7 +11,7 @@ pub returns-in_err-gap : goal.returns-in_err-gap
 returns-in_err-gap c =
     let s = c.args.s.now in
     let x = c.in_err-gap.ensures in
-    next_refused base s c.args.end c.from-residual.result c.in_err-gap.field-0.0 (misfit s c.args.end 0) c.from-residual.ensures.1 x.0
+    next_refused base s c.args.end c.from_residual.result c.in_err-gap.field-0.0 (misfit s c.args.end 0) c.from_residual.ensures.1 x.0
     (λ m. after_base_not s c.args.end m (omega arith) x.1)
 
 pub returns-in_err-next : goal.returns-in_err-next
@@ -19,7 +19,7 @@ returns-in_err-next c =
     let s = c.args.s.now in
     let y = c.in_ok-gap.ensures in
     let x = c.in_err-next.ensures in
-    next_refused base s c.args.end c.from-residual-in_err-next.result c.in_err-next.field-0.0 (misfit s c.in_ok-gap.gap 0) c.from-residual-in_err-next.ensures.1 x.0
+    next_refused base s c.args.end c.from_residual-in_err-next.result c.in_err-next.field-0.0 (misfit s c.in_ok-gap.gap 0) c.from_residual-in_err-next.ensures.1 x.0
     (λ m. to_parted s c.args.end m c.in_ok-gap.gap y.0 y.1 y.2 ∙ parted_not s c.in_ok-gap.gap (ended m) x.1)
 
 pub returns : goal.returns

@@ -11,7 +11,7 @@ pub returns-in_err-end : goal.returns-in_err-end
 returns-in_err-end c =
     λ ns.
     let i = c.loop-end.invariant.1 ns in
-    verdict_refused c.from-residual.result c.in_err-end.field-0.0 _ c.from-residual.ensures.1 (i.1 ∙ c.in_err-end.ensures base i.0)
+    verdict_refused c.from_residual.result c.in_err-end.field-0.0 _ c.from_residual.ensures.1 (i.1 ∙ c.in_err-end.ensures base i.0)
 
 pub returns-in_err-next : goal.returns-in_err-next
 returns-in_err-next c =
@@ -19,7 +19,7 @@ returns-in_err-next c =
     let s = c.args.s.now in
     let i = c.loop-end.invariant.1 ns in
     let n = c.in_ok-end.ensures in
-    verdict_refused c.from-residual-in_err-next.result c.in_err-next.field-0.0 _ c.from-residual-in_err-next.ensures.1
+    verdict_refused c.from_residual-in_err-next.result c.in_err-next.field-0.0 _ c.from_residual-in_err-next.ensures.1
     (i.1 ∙ n.goes base i.0 ∙ c.in_err-next.ensures (recalled s i.0 c.loop-end.pos c.in_ok-end.end))
 
 pub loop-end-preserved : goal.loop-end-preserved

@@ -11,7 +11,7 @@ use Rattle.grammar.proofs.name.+arguments_name.Goals.{arguments-else-after-ne44-
 pub arguments-returns-in_err-end : goal.arguments-returns-in_err-end
 arguments-returns-in_err-end t c =
     let s = c.args.s.now in
-    name_refused s c.args.from c.args.pos (suc c.args.depth) c.args.depth c.from-residual.result c.in_err-end.field-0.0 c.from-residual.ensures.1
+    name_refused s c.args.from c.args.pos (suc c.args.depth) c.args.depth c.from_residual.result c.in_err-end.field-0.0 c.from_residual.ensures.1
     (λ p ns. ap (λ k. onward s c.args.pos (in_name p fresh k) (recalled s ns c.args.from c.args.pos)) (sym (add-one c.args.depth)) ∙ c.in_err-end.ensures p ns)
 
 pub arguments-returns-then-after-ne93 : goal.arguments-returns-then-after-ne93
@@ -79,7 +79,7 @@ arguments-returns t c =
 
 pub name-returns-in_err-end : goal.name-returns-in_err-end
 name-returns-in_err-end t c =
-    name_refused c.args.s.now c.args.from c.args.pos c.args.depth c.args.depth c.from-residual.result c.in_err-end.field-0.0 c.from-residual.ensures.1
+    name_refused c.args.s.now c.args.from c.args.pos c.args.depth c.args.depth c.from_residual.result c.in_err-end.field-0.0 c.from_residual.ensures.1
     c.in_err-end.ensures
 
 pub name-returns-then-byte_at-ne91 : goal.name-returns-then-byte_at-ne91

@@ -17,7 +17,7 @@ returns-in-Some c =
 pub returns-in_err-check_place : goal.returns-in_err-check_place
 returns-in_err-check_place c =
     let n = c.args.self.now in
-    let p = err_from_is_err_and c.from-residual.result c.from-residual.ensures.1 in
+    let p = err_from_is_err_and c.from_residual.result c.from_residual.ensures.1 in
     rw (p.1, p.2)
     record {
       answer = answers_refused n c.args.bytes.now c.in_err-check_place.field-0.0 c.in_default.ensures c.in_err-check_place.ensures;
@@ -33,7 +33,15 @@ invariant_of-self c =
     let laid =
     laid_entered c.args.self.now c.args.bytes.now c.in_default.ensures c.in_ok-check_place.ensures
     c.write_bytes.new.pool c.deref_mut.result.now c.write_bytes.ensures c.deref_mut.ensures.value (c.write_bytes.auto.pool ∙ c.deref_mut.ensures.len) in
-    laid_kept _ _ _ _ _ _ _ laid
+    let kept = laid_kept _ _ _ _ _ _ _ laid in
+    record {
+      few_types = kept.0;
+      few_bytes = kept.1.0;
+      in_use = kept.1.1.0;
+      whole_pool = kept.1.1.1.0;
+      whole_table = kept.1.1.1.1.0;
+      different = kept.1.1.1.1.1.0;
+    }
 
 pub returns : goal.returns
 returns c =

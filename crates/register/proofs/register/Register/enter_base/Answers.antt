@@ -18,7 +18,7 @@ returns-in_err-to c =
     let before = contents_of c.args.self.now in
     let h = c.in_err-to.ensures in
     left_by (λ r. Enters (no_base before.room c.args.from before.entries c.args.base.now c.args.at) (with_base c.args.from before.entries c.args.base.now) before r (contents_of c.enter_name.new.self))
-    c.from-residual.result c.in_err-to.field-0.0 c.from-residual.ensures.1
+    c.from_residual.result c.in_err-to.field-0.0 c.from_residual.ensures.1
     (ap (λ o. first o (no_link_place before.room before.entries.links (link c.args.from (number_for before.entries.names c.args.base.now)) c.args.at)) h.0, grown_is h.1 (grown_refl before c.requires.unsettled))
 
 pub returns-in-Ok : goal.returns-in-Ok

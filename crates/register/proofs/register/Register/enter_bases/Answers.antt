@@ -21,7 +21,7 @@ returns-in_err-enter_base c =
     let start = contents_of c.args.self.now in
     let h = c.in_err-enter_base.ensures in
     left_by (λ r. Enters (bases_lack c.args.source c.args.line c.args.from c.args.bases.now start) (bases_enter c.args.from c.args.bases.now start) start r (contents_of c.enter_base.new.self))
-    c.from-residual.result c.in_err-enter_base.field-0.0 c.from-residual.ensures.1
+    c.from_residual.result c.in_err-enter_base.field-0.0 c.from_residual.ensures.1
     (bases_off c.args.source c.args.line c.args.from c.args.bases.now c.loop-base.base_index (record { column = 0; bytes = record { ref_ptr = (0, 0); now = [] } }) (omega arith) c.loop-base.invariant c.in_err-enter_base.field-0.0 h.0 h.1)
 
 pub loop-base-preserved : goal.loop-base-preserved

@@ -14,7 +14,7 @@ returns-in_err-from c =
     let start = contents_of c.args.self.now in
     let h = c.in_err-from.ensures in
     left_by (λ r. Enters (no_names start.room c.args.source c.args.line start.entries (names_of c.args.declaration.now)) (with_names start.entries (names_of c.args.declaration.now)) start r (contents_of c.enter_name.new.self))
-    c.from-residual.result c.in_err-from.field-0.0 c.from-residual.ensures.1
+    c.from_residual.result c.in_err-from.field-0.0 c.from_residual.ensures.1
     (name_off start (contents_of c.enter_name.new.self) c.args.source c.args.line (name_of c.args.declaration.now.name) (map name_of (vec_items c.args.declaration.now.bases)) c.in_err-from.field-0.0 c.requires.unsettled h)
 
 pub enter_bases-requires : goal.enter_bases-requires

@@ -24,7 +24,7 @@ returns-in_err-enter_line c =
     let start = contents_of c.args.self.now in
     let next = contents_of c.enter_line.new.self in
     left_by (λ r. EntersUnless (lines_lack c.args.source 1 (lines_of c.args.text.now) start) (lines_enter (lines_of c.args.text.now) start) start r next)
-    c.from-residual.result c.in_err-enter_line.field-0.0 c.from-residual.ensures.1
+    c.from_residual.result c.in_err-enter_line.field-0.0 c.from_residual.ensures.1
     (lines_off c.args.source c.loop-line.number (lines_left (option_map (λ x. x.now) c.loop-line.line-iterator.rest)) c.in-Some.line.now (lines_left (option_map (λ x. x.now) c.next.new.self.rest)) c.in-Some.ensures.steps next c.loop-line.invariant.2 c.in_err-enter_line.field-0.0 c.in_err-enter_line.ensures)
 
 pub loop-line-preserved : goal.loop-line-preserved

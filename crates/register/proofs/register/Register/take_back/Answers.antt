@@ -11,7 +11,7 @@ pub returns-in_err-take_back : goal.returns-in_err-take_back
 returns-in_err-take_back c =
     let self = c.args.self.now in
     let b = book_of self.numbered in
-    let z = err_from_is_err_and c.from-residual.result c.from-residual.ensures.1 in
+    let z = err_from_is_err_and c.from_residual.result c.from_residual.ensures.1 in
     let r = z.1 ∙ ap Err z.2 in
     let h = c.in_err-take_back.ensures in
     record {
