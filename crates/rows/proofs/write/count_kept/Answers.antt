@@ -14,10 +14,10 @@ loop-entry-preserved c =
     elim c.if-entry-eq1.branch [
       | then-entry-eq1 w ↦
           let more : ones (take (i + 1) entries) ≡ ones (take i entries) + 1 = count_by_more_yes one entries i 0 c.loop-entry-test.true (eq-eqb _ _ w.if-entry-eq1.true) in
-          (omega (arith, w.count_is), omega (arith, w.count_is))
+          (omega (arith, w.count-is), omega (arith, w.count-is))
       | else-entry-eq1 w ↦
           let same : ones (take (i + 1) entries) ≡ ones (take i entries) = count_by_more_no one entries i 0 c.loop-entry-test.true (ne_eqb _ _ w.if-entry-eq1.false) in
-          (omega (arith, w.count_is), omega (arith, w.count_is))
+          (omega (arith, w.count-is), omega (arith, w.count-is))
     ]
 
 pub returns : goal.returns
