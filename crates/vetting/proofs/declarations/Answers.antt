@@ -9,7 +9,7 @@ use Rattle.vetting.proofs.declarations.Goals as goal
 pub loop-line-init : goal.loop-line-init
 loop-line-init c =
     let t = c.args.text.now in
-    let all : lines_left (option_map (λ x. x.now) c.into_iter-line-iterator.result.rest) ≡ lines_of t = ap (λ s. lines_left (option_map (λ x. x.now) s.rest)) c.into_iter-line-iterator.ensures.into_iter-gives ∙ c.of-line-items.ensures in (
+    let all : lines_left (option_map (λ x. x.now) c.into_iter-line-iterator.result.rest) ≡ lines_of t = ap (λ s. lines_left (option_map (λ x. x.now) s.rest)) c.into_iter-line-iterator.ensures.into_iter_gives ∙ c.of-line-items.ensures in (
       tt,
       tt,
       ap (λ o. with_lines (record { shown = o; declarations = 0; lines = 0 }) (lines_left (option_map (λ x. x.now) c.into_iter-line-iterator.result.rest))) c.new-out.ensures.items ∙ ap (with_lines none) all,

@@ -8,7 +8,7 @@ use Rattle.script.proofs.reading.read_script.Goals as goal
 
 pub loop-line-init : goal.loop-line-init
 loop-line-init c =
-    let all : lines_left (option_map (λ x. x.now) c.into_iter-line-iterator.result.rest) ≡ lines_of c.args.input.now = ap (λ s. lines_left (option_map (λ x. x.now) s.rest)) c.into_iter-line-iterator.ensures.into_iter-gives ∙ c.of-line-items.ensures in
+    let all : lines_left (option_map (λ x. x.now) c.into_iter-line-iterator.result.rest) ≡ lines_of c.args.input.now = ap (λ s. lines_left (option_map (λ x. x.now) s.rest)) c.into_iter-line-iterator.ensures.into_iter_gives ∙ c.of-line-items.ensures in
     (tt, tt, ap (λ r. with_lines true r (lines_left (option_map (λ x. x.now) c.into_iter-line-iterator.result.rest))) c.new-script.ensures ∙ ap (with_lines true begun) all)
 
 pub loop-line-preserved : goal.loop-line-preserved

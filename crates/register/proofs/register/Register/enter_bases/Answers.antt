@@ -22,15 +22,15 @@ returns-in_err-enter_base c =
     let h = c.in_err-enter_base.ensures in
     left_by (λ r. Enters (bases_lack c.args.source c.args.line c.args.from c.args.bases.now start) (bases_enter c.args.from c.args.bases.now start) start r (contents_of c.enter_base.new.self))
     c.from_residual.result c.in_err-enter_base.field-0.0 c.from_residual.ensures.1
-    (bases_off c.args.source c.args.line c.args.from c.args.bases.now c.loop-base.base_index (record { column = 0; bytes = record { ref_ptr = (0, 0); now = [] } }) (omega arith) c.loop-base.invariant c.in_err-enter_base.field-0.0 h.0 h.1)
+    (bases_off c.args.source c.args.line c.args.from c.args.bases.now c.loop-base.base-index (record { column = 0; bytes = record { ref_ptr = (0, 0); now = [] } }) (omega arith) c.loop-base.invariant c.in_err-enter_base.field-0.0 h.0 h.1)
 
 pub loop-base-preserved : goal.loop-base-preserved
 loop-base-preserved c =
     let h = c.in_ok-enter_base.ensures in
-    bases_on c.args.source c.args.line c.args.from c.args.bases.now c.loop-base.base_index (record { column = 0; bytes = record { ref_ptr = (0, 0); now = [] } }) (omega arith) c.loop-base.invariant h.0 h.1
+    bases_on c.args.source c.args.line c.args.from c.args.bases.now c.loop-base.base-index (record { column = 0; bytes = record { ref_ptr = (0, 0); now = [] } }) (omega arith) c.loop-base.invariant h.0 h.1
 
 pub returns : goal.returns
 returns c =
-    let none = ap (map name_of) (drop_all c.loop-base.base_index c.args.bases.now c.loop-base-test.false) in
+    let none = ap (map name_of) (drop_all c.loop-base.base-index c.args.bases.now c.loop-base-test.false) in
     let here = contents_of c.loop-base.self in
     going_done c.loop-base.invariant (ap (no_bases here.room c.args.source c.args.line c.args.from here.entries) none) (ap (with_bases c.args.from here.entries) none)

@@ -13,7 +13,7 @@ pub loop-line-init : goal.loop-line-init
 loop-line-init c =
     let t = c.args.text.now in
     let start = contents_of c.args.self.now in
-    let all : lines_left (option_map (λ x. x.now) c.into_iter-line-iterator.result.rest) ≡ lines_of t = ap (λ s. lines_left (option_map (λ x. x.now) s.rest)) c.into_iter-line-iterator.ensures.into_iter-gives ∙ c.of-line-items.ensures in
+    let all : lines_left (option_map (λ x. x.now) c.into_iter-line-iterator.result.rest) ≡ lines_of t = ap (λ s. lines_left (option_map (λ x. x.now) s.rest)) c.into_iter-line-iterator.ensures.into_iter_gives ∙ c.of-line-items.ensures in
     (tt, tt, record { grown = grown_refl start c.requires.unsettled; lacks = ap (λ ls. lines_lack c.args.source 1 ls start) all; enters = ap (λ ls. lines_enter ls start) all }, omega (arith, lines_count t, ap length all))
 
 pub enter_line-requires : goal.enter_line-requires
