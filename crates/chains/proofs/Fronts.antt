@@ -1,6 +1,6 @@
 -- A table whose first entries were lent and came back as another list.
 use Rattle.std.proofs.Common.{◌≡◌, ℕ, ◌-◌, ◌≤◌, List, ◌++◌, length, take, drop, ap, ◌∙◌, arith}
-use Rattle.std.proofs.lemmas.List.{length-take-le, take_at, drop_at, drop-drop}
+use Rattle.std.proofs.lemmas.List.{length-take-le, take_at, drop_at}
 
 pub front_length : (table : List ℕ) (n : ℕ) → n ≤ length table → length (take (n - 0) table) ≡ n
 front_length table n h = let z : n - 0 ≡ n = omega arith in length-take-le (n - 0) table (omega arith) ∙ z

@@ -1,5 +1,5 @@
 -- The tables while chains are joined: their start, each turn, and their end.
-use Rattle.std.proofs.Common.{◌≡◌, ℕ, ◌+◌, ◌-◌, ◌<◌, ◌≤◌, Bool, true, false, cond, not, eqb, ◌⊎◌, List, map, length, get_or, set, Some, None, sym, refl, ap, ◌∙◌, subst, inl, inr, ⊎_elim, arith, length-set}
+use Rattle.std.proofs.Common.{◌≡◌, ℕ, ◌+◌, ◌-◌, ◌<◌, ◌≤◌, true, cond, List, map, length, get_or, set, Some, None, sym, refl, ap, ◌∙◌, subst, inr, ⊎_elim, arith}
 use Rattle.std.specs.List.{range_with_len}
 use Rattle.std.proofs.lemmas.List.FromFn.{fill_by_all, get_or-map-range_with_len, length-map-range_with_len}
 use Rattle.std.proofs.lemmas.Bool.{cases_Bool, eq-eqb, ne_eqb, not_from_true, not_from_false}
@@ -8,15 +8,14 @@ use Rattle.descent.specs.Computed.{descends}
 use Rattle.order.specs.Order.{lowest}
 use Rattle.chains.specs.Chains.{Chained}
 use Rattle.chains.specs.Counting.{passing}
-use Rattle.chains.specs.Ends.{no_type, Strung, First, Last, Stands, Bare, Ends, has_last, is_host}
-use Rattle.chains.specs.Joining.{chain_of, position_of, put_behind, turn, turns, stands, renumbered, joined}
+use Rattle.chains.specs.Ends.{no_type, Strung, Stands, Bare, Ends, has_last, is_host}
+use Rattle.chains.specs.Joining.{chain_of, put_behind, turns, stands, renumbered}
 use Rattle.chains.specs.Places.{Places, places}
-use Rattle.chains.specs.Ranked.{Ranked}
 use Rattle.chains.specs.Counts.{passing_same}
 use Rattle.chains.proofs.Lines.{same_places}
 use Rattle.chains.specs.Renumbering.{decides_stands}
-use Rattle.chains.specs.Strung.{chained_strung, after_strung}
-use Rattle.chains.proofs.Turns.{AtTurn, turn_none, turn_some, host_below, host_joins, turn_ends, turn_standing, turns_more, turns_end}
+use Rattle.chains.specs.Strung.{after_strung}
+use Rattle.chains.proofs.Turns.{AtTurn, turn_none, turn_some, host_below, host_joins, turn_ends, turn_standing, turns_more}
 
 -- ---- the start: each chain stands
 module _ {n : ℕ} {links : List Link} {chains positions : List ℕ} {count : ℕ} (c : Chained n links chains positions count) where

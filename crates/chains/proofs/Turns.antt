@@ -1,17 +1,17 @@
 -- The turn of a chain, by the tables of first and last types and the marks.
-use Rattle.std.proofs.Common.{◌≡◌, ℕ, zero, suc, ◌+◌, ◌-◌, ◌<◌, ◌≤◌, Bool, true, false, cond, not, ◌&&◌, eqb, ◌⊎◌, List, length, get_or, set, Some, None, Option, sym, refl, ap, ◌∙◌, subst, inl, inr, ⊎_elim, arith, length-set}
+use Rattle.std.proofs.Common.{◌≡◌, ℕ, zero, suc, ◌+◌, ◌-◌, ◌<◌, ◌≤◌, Bool, true, false, cond, not, ◌&&◌, eqb, List, length, get_or, set, Some, None, sym, refl, ap, ◌∙◌, subst, inl, inr, ⊎_elim, arith, length-set}
 use Rattle.std.proofs.lemmas.List.{get_or-set_same, get_or-set_other}
-use Rattle.std.proofs.lemmas.Bool.{cases_eq, and_right, eq-eqb, ne_eqb}
+use Rattle.std.proofs.lemmas.Bool.{cases_eq, eq-eqb, ne_eqb}
 use Rattle.descent.specs.declared.link.Link.{Link}
 use Rattle.descent.specs.Computed.{descends}
 use Rattle.order.specs.Order.{lowest}
 use Rattle.order.proofs.Lowest.{lowest_same, lowest_some}
 use Rattle.order.proofs.WholeOrders.{path_rises}
-use Rattle.chains.specs.Ends.{no_type, Strung, First, Last, Stands, Bare, Ends, is_host}
+use Rattle.chains.specs.Ends.{no_type, Strung, Stands, Bare, Ends, is_host}
 use Rattle.chains.specs.Joining.{chain_of, position_of, first_type, last_type, leads, takes, put_behind, put_on_end, turn, turns}
-use Rattle.chains.specs.Places.{Places, places}
+use Rattle.chains.specs.Places.{Places}
 use Rattle.chains.specs.Ranked.{Ranked}
-use Rattle.chains.specs.Strung.{Joins, first_is, last_is, last_nothing, takes_true, takes_joins, last_some, first_some, after_strung, moved_chain, moved_position, kept_chain, kept_position}
+use Rattle.chains.specs.Strung.{Joins, first_is, last_is, last_nothing, takes_true, takes_joins, moved_chain, moved_position, kept_chain, kept_position}
 
 -- ---- positions are at most ranks, and so below the number of types
 module _ {n : ℕ} {links : List Link} {s : Places} {order rank : List ℕ} (strung : Strung n links s) (ranks : Ranked n links order rank) where

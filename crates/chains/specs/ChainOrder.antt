@@ -1,5 +1,5 @@
 -- Chain order: in rank order, each type on no chain begins the next chain; while the chain's last type has bases on no chain, the one of lowest rank is added.
-use Rattle.std.specs.Prelude.{ℕ, zero, suc, ◌+◌, Bool, true, false, cond, ◌&&◌, ◌||◌, List, [], ◌∷◌, replicate, Some, None, Option, ◌==◌, slice_index, slice_set}
+use Rattle.std.specs.Prelude.{ℕ, zero, suc, ◌+◌, Bool, false, cond, ◌&&◌, ◌||◌, List, [], ◌∷◌, replicate, Some, None, Option, ◌==◌, slice_index, slice_set}
 use Rattle.descent.specs.declared.link.Link.{Link}
 use Rattle.chains.specs.Places.{Places, places}
 

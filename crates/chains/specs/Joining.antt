@@ -1,5 +1,5 @@
 -- Joining: in ascending number, each chain is put on the end of the lowest-numbered other standing chain whose last type has a path to its first type, if any; it then no longer stands. Standing chains are renumbered from 0 in their old sequence.
-use Rattle.std.specs.Prelude.{ℕ, zero, suc, ◌+◌, Bool, true, false, cond, not, ◌&&◌, ◌||◌, List, map, Some, None, Option, ◌==◌, nat_le, slice_index}
+use Rattle.std.specs.Prelude.{ℕ, zero, suc, ◌+◌, Bool, false, cond, not, ◌&&◌, ◌||◌, List, map, Some, None, Option, ◌==◌, nat_le, slice_index}
 use Rattle.std.specs.List.{range_with_len}
 use Rattle.descent.specs.declared.link.Link.{Link}
 use Rattle.descent.specs.Computed.{descends, every}

@@ -1,18 +1,16 @@
 -- Standing chains renumbered from 0: joining keeps the decomposer's meaning.
-use Rattle.std.specs.Prelude.{◌≡◌, ℕ, ◌+◌, ◌<◌, ◌≤◌, Bool, true, List, map, get_or, Decides, refl}
+use Rattle.std.specs.Prelude.{◌≡◌, ℕ, ◌<◌, true, List, Decides, refl}
 use Rattle.std.proofs.Common.{sym, ap, subst, ◌∙◌, ⊎_elim, arith}
-use Rattle.std.specs.List.{range_with_len}
 use Rattle.std.proofs.lemmas.List.FromFn.{get_or-map-range_with_len}
 use Rattle.std.proofs.lemmas.Bool.{cases_order}
 use Rattle.std.proofs.lemmas.Bool.Decides.{Decides-eqb, Decides-below_or}
 use Rattle.descent.specs.declared.link.Link.{Link}
-use Rattle.descent.specs.Links.{Path}
 use Rattle.chains.specs.Chains.{Chained}
 use Rattle.chains.specs.Counting.{some, passing}
 use Rattle.chains.specs.Ends.{Strung}
-use Rattle.chains.specs.Joining.{chain_of, position_of, on, turns, stands, renumbered, joined}
+use Rattle.chains.specs.Joining.{chain_of, position_of, on, stands, renumbered, joined}
 use Rattle.chains.specs.Meaning.{Decomposes, JoinedFrom}
-use Rattle.chains.specs.Places.{Places, places}
+use Rattle.chains.specs.Places.{Places}
 use Rattle.chains.specs.Counts.{passing_above, passing-at}
 use Rattle.chains.specs.Strung.{chained_strung, chain_first, turns_strung}
 

@@ -1,13 +1,12 @@
 -- Types strung on chains, of which some may have no type: first and last types, and a chain put behind the last type of another.
-use Rattle.std.specs.Prelude.{◌≡◌, ℕ, zero, suc, ◌+◌, ◌<◌, ◌≤◌, Bool, true, false, cond, not, ◌&&◌, ◌||◌, leb, ◌⊎◌, List, map, length, Some, None, Decides, Option, ◌==◌, ◌≢◌, nat_le, refl}
-use Rattle.std.proofs.Common.{sym, ap, subst, ◌∙◌, inl, inr, ⊎_elim, arith}
-use Rattle.std.specs.List.{range_with_len}
+use Rattle.std.specs.Prelude.{◌≡◌, ℕ, zero, suc, ◌+◌, ◌<◌, ◌≤◌, Bool, true, cond, not, ◌&&◌, ◌||◌, leb, List, Some, None, Decides, Option, ◌==◌, ◌≢◌, nat_le, refl}
+use Rattle.std.proofs.Common.{sym, ap, subst, ◌∙◌, ⊎_elim, arith}
 use Rattle.std.proofs.lemmas.List.FromFn.{get_or-map-range_with_len}
-use Rattle.std.proofs.lemmas.Bool.{cases_eq, cases_Bool, and_parts, both_ways, false≢true, not-true, eqb-false, eq-eqb, ne_eqb, leb-true, le-leb}
-use Rattle.std.proofs.lemmas.Bool.Decides.{Decides-and, Decides-eqb, Decides-below_and, Decides-below_or, not_from_Decides}
+use Rattle.std.proofs.lemmas.Bool.{cases_eq, and_parts, both_ways, false≢true, not-true, eqb-false, eq-eqb, ne_eqb, leb-true, le-leb}
+use Rattle.std.proofs.lemmas.Bool.Decides.{Decides-and, Decides-eqb, Decides-below_and}
 use Rattle.descent.specs.declared.link.Link.{Link}
 use Rattle.descent.specs.Computed.{descends, every}
-use Rattle.descent.specs.Links.{Path, Descends}
+use Rattle.descent.specs.Links.{Path}
 use Rattle.descent.proofs.Closures.{decides_descends}
 use Rattle.order.specs.Order.{lowest}
 use Rattle.order.proofs.Lowest.{lowest_some, lowest_none, option_cases}
@@ -15,8 +14,6 @@ use Rattle.chains.specs.Chains.{Chained}
 use Rattle.chains.specs.Ends.{Strung, First, Last}
 use Rattle.chains.specs.Joining.{chain_of, position_of, on, first_type, last_type, leads, takes, put_behind, put_on_end, turn, turns}
 use Rattle.chains.specs.Places.{Places, places}
-use Rattle.chains.specs.Ranked.{Ranked}
-use Rattle.chains.specs.Firsts.{none-some}
 
 pub chained_strung : {n : ℕ} {links : List Link} {chains positions : List ℕ} {count : ℕ} → Chained n links chains positions count → Strung n links (places count chains positions)
 chained_strung c = record { below = c.below; apart = c.apart; follows = c.follows }

@@ -1,5 +1,5 @@
 -- Kept links: they have the descent of all, every set with that descent has them, and which they are by the other bases.
-use Rattle.std.proofs.Common.{◌≡◌, ℕ, zero, suc, ◌+◌, ◌<◌, ◌⊎◌, List, sym, refl, ◌∙◌, subst, inl, inr, ⊎_elim, arith}
+use Rattle.std.proofs.Common.{◌≡◌, ℕ, zero, suc, ◌+◌, ◌<◌, List, sym, refl, ◌∙◌, subst, inl, inr, ⊎_elim, arith}
 use Rattle.descent.specs.declared.link.Link.{Link}
 use Rattle.descent.specs.Answers.{Same}
 use Rattle.descent.specs.Kept.{LongPath, Kept, KeepsExactly}

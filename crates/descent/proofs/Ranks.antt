@@ -1,5 +1,5 @@
 -- Rising ranks rule out loops, and links without a loop have them.
-use Rattle.std.proofs.Common.{◌≡◌, ℕ, zero, suc, ◌-◌, ◌<◌, true, false, ◌⊎◌, List, length, get_or, sym, refl, subst, inl, inr, ⊎_elim, add-one, arith}
+use Rattle.std.proofs.Common.{◌≡◌, ℕ, zero, suc, ◌-◌, ◌<◌, true, false, List, length, get_or, sym, refl, subst, inl, inr, ⊎_elim, add-one, arith}
 use Rattle.std.proofs.lemmas.Bool.{cases_eq, cases_Bool, both_ways}
 use Rattle.descent.specs.declared.link.Link.{Link}
 use Rattle.descent.specs.Computed.{descends}

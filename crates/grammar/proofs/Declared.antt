@@ -1,5 +1,5 @@
 -- Names read out of a line, one after another.
-use Rattle.std.proofs.Common.{◌≡◌, ℕ, ◌+◌, List, [], ◌∷◌, ◌++◌, map, IsErrAnd, Ok, Err, Result, sym, refl, ap, ◌∙◌, subst, append_assoc}
+use Rattle.std.proofs.Common.{◌≡◌, ℕ, ◌+◌, List, [], ◌∷◌, ◌++◌, map, IsErrAnd, Err, Result, sym, ap, ◌∙◌, subst, append_assoc}
 use mathlib.Core.List.{map-append}
 use Rattle.std.proofs.lemmas.Result.{err_from_is_err_and}
 use Rattle.grammar.specs.declared.fault.Fault.{Fault}
@@ -7,7 +7,7 @@ use Rattle.grammar.specs.declared.declaration.Name.{Name}
 use Rattle.grammar.specs.declared.declaration.Unread.{Unread}
 use Rattle.grammar.specs.declared.declaration.Unread.TheVariants.{Unlawful, NoMemory}
 use Rattle.grammar.specs.Grammar.{Named, named}
-use Rattle.grammar.specs.Reading.{Outcome, lawful, unlawful, all_names}
+use Rattle.grammar.specs.Reading.{Outcome, unlawful, all_names}
 use Rattle.grammar.specs.Posts.{recalled, part}
 use Rattle.grammar.specs.Declarations.{name_of, Reads}
 

@@ -1,14 +1,13 @@
 -- One byte of a line, outside of names.
-use Rattle.std.proofs.Common.{◌≡◌, ℕ, zero, suc, ◌+◌, ◌-◌, ◌<◌, ◌≤◌, Bool, true, false, cond, eqb, List, [], ◌∷◌, length, get_or, take, drop, IsErrAnd, Some, None, Ok, Err, Option, Result, sym, refl, ap, ◌∙◌, subst, ⊎_elim, arith, eq-eqb, ne_eqb}
-use Rattle.std.proofs.str.Laws.{order}
+use Rattle.std.proofs.Common.{◌≡◌, ℕ, ◌+◌, ◌-◌, ◌<◌, ◌≤◌, true, false, cond, eqb, List, ◌∷◌, length, get_or, take, drop, IsErrAnd, Some, None, Ok, Err, Option, Result, sym, refl, ap, ◌∙◌, subst, arith, ne_eqb}
 use Rattle.std.proofs.lemmas.List.{at_drop_more, drop_more, take_rest}
 use Rattle.std.proofs.lemmas.Result.{err_from_is_err_and}
 use Rattle.grammar.specs.declared.fault.Fault.{Fault}
 use Rattle.grammar.specs.declared.fault.Rule.TheVariants.{Printable, Brackets, Grammar}
 use Rattle.grammar.specs.Bytes.{printable, space, hash, comma, less, closing}
-use Rattle.grammar.specs.Grammar.{Named, named}
-use Rattle.grammar.specs.Reading.{State, Part, first, base, fresh, closed, in_name, spaced, signed, parted, stuck, Memory, begun, ended, all_names, step, remember, is_stuck, passed, broken, nothing, comment, Outcome, lawful, unlawful, fault, unless, over, start, reading_from, reading}
-use Rattle.grammar.specs.Posts.{onward, recalled, part, misfit, NextRead, CommentRead, verdict}
+use Rattle.grammar.specs.Grammar.{Named}
+use Rattle.grammar.specs.Reading.{State, Part, first, base, fresh, closed, in_name, spaced, signed, parted, stuck, Memory, begun, ended, all_names, step, remember, is_stuck, passed, broken, nothing, comment, Outcome, lawful, unlawful, fault, unless, start, reading_from, reading}
+use Rattle.grammar.specs.Posts.{onward, recalled, misfit, NextRead, CommentRead, verdict}
 use Rattle.grammar.proofs.Steps.{judged, to, at_end, not_admitted, part_none}
 
 -- the byte b at i leads from a to t, or there is a fault

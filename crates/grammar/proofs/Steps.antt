@@ -1,15 +1,15 @@
 -- One byte of a line, and what becomes of it.
-use Rattle.std.proofs.Common.{◌≡◌, ℕ, zero, suc, ◌+◌, ◌-◌, ◌<◌, ◌≤◌, Bool, true, false, cond, eqb, ltb, List, [], ◌∷◌, ◌++◌, length, get_or, take, drop, IsErrAnd, Some, None, Ok, Err, Option, Result, sym, refl, ap, ◌∙◌, subst, ⊎_elim, add-one, arith, length-drop, length-take, le-ltb, lt-ltb, eq-eqb, ne_eqb}
+use Rattle.std.proofs.Common.{◌≡◌, ℕ, zero, suc, ◌+◌, ◌-◌, ◌<◌, ◌≤◌, Bool, true, false, cond, eqb, ltb, List, [], ◌∷◌, ◌++◌, length, get_or, take, drop, IsErrAnd, Some, None, Ok, Err, Result, sym, refl, ap, ◌∙◌, subst, ⊎_elim, add-one, arith, length-drop, length-take, le-ltb, lt-ltb, ne_eqb}
 use borrow.Author.Tests.{both_ways}
 use Rattle.std.proofs.str.Laws.{order}
 use Rattle.std.proofs.lemmas.List.{at_drop_more, at_drop_all, get_or_past, take_more, get_or-drop}
 use Rattle.std.proofs.lemmas.Result.{err_from_is_err_and}
 use Rattle.grammar.specs.declared.fault.Fault.{Fault}
 use Rattle.grammar.specs.declared.fault.Rule.{Rule}
-use Rattle.grammar.specs.declared.fault.Rule.TheVariants.{Printable, Brackets, Length, Grammar}
+use Rattle.grammar.specs.declared.fault.Rule.TheVariants.{Brackets, Length}
 use Rattle.grammar.specs.Bytes.{begins, continues, comma, opening, closing}
 use Rattle.grammar.specs.Grammar.{Named}
-use Rattle.grammar.specs.Reading.{State, Part, Mode, fresh, in_word, closed, in_name, stuck, Memory, longer, after, step, remember, opened, is_stuck, misplaced, unfinished, passed, broken, Outcome, lawful, unlawful, fault, unless, over, reading_from}
+use Rattle.grammar.specs.Reading.{State, Part, Mode, fresh, in_word, closed, in_name, stuck, Memory, longer, after, step, remember, opened, is_stuck, misplaced, unfinished, passed, broken, unlawful, fault, unless, over, reading_from}
 use Rattle.grammar.specs.Posts.{onward, part, recalled, misfit, NameEnd, NameRead}
 
 -- the byte at i is in the line where it passes a test that 0 fails

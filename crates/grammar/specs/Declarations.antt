@@ -1,5 +1,5 @@
 -- What the readers of declarations answer, against the outcome of reading the line.
-use Rattle.std.specs.Prelude.{◌≡◌, ℕ, List, [], ◌∷◌, ◌++◌, map, Some, None, Ok, Err, vec_items, Option, Result, Vec}
+use Rattle.std.specs.Prelude.{◌≡◌, List, [], ◌∷◌, ◌++◌, map, Some, None, Ok, Err, vec_items, Option, Result, Vec}
 use Rattle.std.specs.declared.alloc.Global.{Global}
 use Rattle.grammar.specs.declared.declaration.Name.{Name}
 use Rattle.grammar.specs.declared.declaration.Declaration.{Declaration}

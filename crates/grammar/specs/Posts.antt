@@ -1,6 +1,5 @@
 -- What the readers of names promise each other: how the reading of a line goes on from one of its bytes.
-use Rattle.std.specs.Prelude.{◌≡◌, ℕ, suc, ◌+◌, ◌-◌, ◌<◌, ◌≤◌, Bool, true, false, cond, List, [], ◌∷◌, length, drop, Some, None, Ok, Err, Option, Result, ◌≢◌, nat_lt, slice_index, slice_range}
-use Rattle.grammar.specs.declared.fault.Rule.{Rule}
+use Rattle.std.specs.Prelude.{◌≡◌, ℕ, ◌+◌, ◌<◌, ◌≤◌, false, cond, List, [], length, drop, Some, None, Ok, Err, Option, Result, ◌≢◌, nat_lt, slice_index, slice_range}
 use Rattle.grammar.specs.declared.fault.Fault.{Fault}
 use Rattle.grammar.specs.Bytes.{continues}
 use Rattle.grammar.specs.Grammar.{Named}

@@ -1,7 +1,6 @@
 -- Worked lines, each with its outcome.
 use Rattle.std.specs.Prelude.{◌≡◌, ℕ, zero, suc, List, [], ◌∷◌, ◌++◌, map, codes}
 use Prim.Native.String.{String}
-use Rattle.grammar.specs.declared.fault.Rule.{Rule}
 use Rattle.grammar.specs.declared.fault.Rule.TheVariants.{Printable, Brackets, Length, Grammar}
 use Rattle.grammar.specs.Grammar.{Named, named}
 use Rattle.grammar.specs.Reading.{Outcome, lawful, fault, reading}

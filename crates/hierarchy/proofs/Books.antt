@@ -1,9 +1,8 @@
 -- Books that hold the same.
-use Rattle.std.proofs.Common.{◌≡◌, ℕ, List, ◌++◌, length, take, drop, replicate, Option, sym, refl, ap, ◌∙◌}
+use Rattle.std.proofs.Common.{◌≡◌, ℕ, List, ◌++◌, length, take, drop, replicate, Option, ap, ◌∙◌}
 use Rattle.std.proofs.lemmas.List.{take_at, length-replicate}
-use Rattle.descent.specs.declared.link.Link.{Link}
 use Rattle.hierarchy.specs.Entering.{Held}
-use Rattle.hierarchy.specs.Books.{Book, Written}
+use Rattle.hierarchy.specs.Books.{Book}
 
 -- what a table holds after one value was written throughout a slice of all of it
 pub refilled_with : {X : Type 0} (xs ws s0 : List X) (n : ℕ) (y : X) → ws ≡ replicate (length s0) y → length s0 ≡ n → take n (ws ++ drop (length ws) xs) ≡ replicate n y

@@ -1,9 +1,8 @@
 -- Tables of links: one link more, and fewer links.
-use Rattle.std.proofs.Common.{◌≡◌, ℕ, ◌+◌, ◌-◌, ◌<◌, ◌≤◌, Bool, true, false, ◌||◌, ◌≢◌, ◌⊎◌, List, [], ◌∷◌, ◌++◌, length, get_or, take, drop, set, replicate, sym, refl, ap, ◌∙◌, subst, inl, inr, ⊎_elim, append_assoc, append-nil, arith, get_or-set_other}
+use Rattle.std.proofs.Common.{◌≡◌, ℕ, ◌+◌, ◌-◌, ◌<◌, ◌≤◌, false, ◌≢◌, ◌⊎◌, List, [], ◌∷◌, ◌++◌, length, get_or, take, drop, set, replicate, sym, ap, ◌∙◌, subst, inl, inr, ⊎_elim, append_assoc, append-nil, arith, get_or-set_other}
 use borrow.Author.Tests.{both_ways}
 use Rattle.std.proofs.lemmas.List.{take_more_set, take_all, take_at, get_or-take, get_or_past, get_or-replicate, get_or-append_right, length-replicate, replicate_more, length-take-le, length_push, get_or_append_left, get_or_push}
 use Rattle.std.proofs.str.Laws.{order}
-use Rattle.std.proofs.lemmas.Bool.{cases_eq}
 use Rattle.descent.specs.declared.link.Link.{Link}
 use Rattle.descent.specs.Links.{no_link, link, Within}
 use Rattle.rows.specs.KeptEntries.{Different}

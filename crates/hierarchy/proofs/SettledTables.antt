@@ -1,12 +1,12 @@
 -- The tables of a settled book answer.
-use Rattle.std.proofs.Common.{◌≡◌, ℕ, ◌+◌, ◌-◌, ◌*◌, ◌<◌, ◌≤◌, Bool, true, false, cond, ◌||◌, ltb, leb, List, ◌++◌, map, length, get_or, take, drop, Some, None, Ok, Err, Decides, Option, Result, sym, refl, ap, ◌∙◌, subst, ⊎_elim, arith, ltb-false, lt-ltb, le-leb}
+use Rattle.std.proofs.Common.{◌≡◌, ℕ, ◌+◌, ◌*◌, ◌<◌, ◌≤◌, Bool, true, false, cond, ◌||◌, ltb, leb, List, ◌++◌, length, get_or, take, drop, Some, None, Ok, Err, Decides, Option, Result, sym, refl, ap, ◌∙◌, subst, ⊎_elim, arith, ltb-false, lt-ltb, le-leb}
 use borrow.Author.Tests.{lt-leb, clash}
 use Rattle.std.proofs.lemmas.List.{get_or-take, get_or_append_left, length-append, take_all, take_at, length-map}
 use Rattle.std.proofs.str.Laws.{order as compared}
 use mathlib.Core.Logic.{∥∥₁_elim, ∥∥₁_map}
 use native.Mathlib.Bridge.{le_prop}
 use Rattle.descent.specs.declared.link.Link.{Link}
-use Rattle.descent.specs.Links.{Descends, Within}
+use Rattle.descent.specs.Links.{Within}
 use Rattle.descent.specs.Computed.{descends}
 use Rattle.descent.specs.Refusals.{question_refusal}
 use Rattle.descent.specs.declared.refusal.Refusal.TheVariants.{NotBelow}
@@ -19,7 +19,6 @@ use Rattle.rows.specs.Rows.{rows_of}
 use Rattle.rows.specs.KeptEntries.{kept_of}
 use Rattle.rows.proofs.RowPlaces.{all_rows_length, row_fits}
 use Rattle.rows.proofs.Answering.{rows_answer}
-use Rattle.std.specs.List.{range_with_len}
 use Rattle.std.proofs.lemmas.List.FromFn.{length-range_with_len}
 use Rattle.chains.specs.Meaning.{Decomposes}
 use Rattle.settling.specs.declared.outcome.Settled.{Settled}

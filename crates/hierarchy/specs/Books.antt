@@ -1,5 +1,5 @@
 -- A numbered book by what it holds, and what its calls leave.
-use Rattle.std.specs.Prelude.{◌≡◌, ℕ, List, replicate, Some, None, Ok, Err, vec_items, Option, Result}
+use Rattle.std.specs.Prelude.{ℕ, List, replicate, None, Ok, Err, vec_items, Option, Result}
 use Rattle.descent.specs.Links.{no_link}
 use Rattle.hierarchy.specs.declared.book.Hierarchy.{Hierarchy}
 use Rattle.hierarchy.specs.declared.entering.Entry.{Entry}

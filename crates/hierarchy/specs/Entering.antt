@@ -1,5 +1,5 @@
 -- What entering a type or a link answers, and what is entered then.
-use Rattle.std.specs.Prelude.{◌≡◌, ℕ, ◌+◌, ◌-◌, Bool, true, false, cond, ◌&&◌, ◌||◌, List, [], ◌∷◌, ◌++◌, length, take, set, replicate, Some, None, Ok, Err, vec_items, vec_len, Option, Result, ◌==◌, nat_lt, slice_set}
+use Rattle.std.specs.Prelude.{ℕ, ◌+◌, ◌-◌, Bool, false, cond, ◌&&◌, ◌||◌, List, [], ◌∷◌, ◌++◌, length, take, replicate, Some, None, Ok, Err, vec_items, Option, Result, ◌==◌, nat_lt, slice_set}
 use Rattle.descent.specs.declared.link.Link.{Link}
 use Rattle.descent.specs.Links.{no_link, link}
 use Rattle.descent.specs.Refusals.{stray_end}

@@ -4,7 +4,7 @@ use Rattle.settling.specs.declared.outcome.Settled.{Settled}
 use Rattle.settling.specs.declared.outcome.Unsettled.{Unsettled}
 use Rattle.settling.specs.declared.outcome.Unsettled.TheVariants.{ShortTable, Loop, ShortIndex}
 use Rattle.settling.specs.Settling.{Tables, Giving, SettlesAs}
-use Rattle.hierarchy.specs.Entering.{Held, links_in}
+use Rattle.hierarchy.specs.Entering.{links_in}
 use Rattle.hierarchy.specs.Books.{Book, Written}
 
 -- the book's tables with the loop table and the working memory of the call

@@ -1,7 +1,7 @@
 -- One name more, and fewer names: places, tables, and that the names are different.
-use Rattle.std.proofs.Common.{◌≡◌, ℕ, zero, suc, ◌+◌, ◌-◌, ◌<◌, ◌≤◌, Bool, true, false, cond, ◌&&◌, ltb, leb, ◌⊎◌, List, [], ◌∷◌, ◌++◌, length, get_or, take, drop, set, Some, None, Ok, Err, vec_items, vec_len, Option, Result, sym, refl, ap, ◌∙◌, subst, ap₂, inl, inr, ⊎_elim, append-nil, zero-add, arith}
+use Rattle.std.proofs.Common.{◌≡◌, ℕ, zero, suc, ◌+◌, ◌<◌, ◌≤◌, cond, ltb, leb, List, [], ◌∷◌, ◌++◌, length, get_or, take, drop, set, Some, None, Ok, Err, vec_items, vec_len, Result, sym, ap, ◌∙◌, subst, ap₂, ⊎_elim, append-nil, zero-add, arith}
 use Rattle.std.specs.Str.{bytes_eq}
-use Rattle.std.proofs.lemmas.List.{length-append, length_push, length-take, length-take-le, take-append-drop, get_or_append_left, get_or_push, get_or-take}
+use Rattle.std.proofs.lemmas.List.{length-append, length_push, length-take-le, take-append-drop, get_or_append_left, get_or_push, get_or-take}
 use Rattle.std.proofs.lemmas.Slice.Eq.{bytes_eq-Decides}
 use Rattle.std.proofs.lemmas.Bool.{cases_Bool, cases_lt, cond-true, cond-false, and_parts, ltb-true, leb-true}
 use Rattle.names.specs.declared.refusal.Entry.{Entry}

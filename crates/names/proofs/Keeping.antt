@@ -1,9 +1,9 @@
 -- What follows from what a value of `Names` keeps at all times.
-use Rattle.std.proofs.Common.{◌≡◌, ℕ, ◌+◌, ◌-◌, ◌<◌, ◌≤◌, List, [], ◌∷◌, ◌++◌, length, get_or, take, drop, replicate, vec_items, vec_len, sym, refl, ap, ◌∙◌, subst, zero-add, arith}
+use Rattle.std.proofs.Common.{◌≡◌, ℕ, ◌+◌, ◌-◌, ◌<◌, ◌≤◌, List, [], length, get_or, take, replicate, vec_items, vec_len, sym, refl, ap, ◌∙◌, subst, zero-add, arith}
 use Rattle.std.proofs.lemmas.List.{get_or_read_under, get_or_append_left}
 use Rattle.names.specs.declared.span.Span.{Span}
 use Rattle.names.specs.declared.names.Names.{Names}
-use Rattle.names.specs.Tables.{span, bytes_of, spans_from, spans_of, part}
+use Rattle.names.specs.Tables.{span, bytes_of, spans_from, part}
 use Rattle.names.specs.Held.{names_in, pool_size, table_size, Holds}
 use Rattle.names.proofs.Laying.{Laid, laid_names, length-spans_from, span_start, span_end, length-names_at, get_or-names_at}
 

@@ -1,5 +1,5 @@
 -- General facts about names: what their numbers say, what the tables say, and that taking back undoes entering.
-use Rattle.std.specs.Prelude.{◌≡◌, ℕ, ◌≤◌, List, [], ◌∷◌, length, Some, None, Ok}
+use Rattle.std.specs.Prelude.{◌≡◌, ℕ, ◌≤◌, List, [], ◌∷◌, length, Some, Ok}
 use Rattle.names.specs.Tables.{span, bytes_of, pool_of, spans_of, names_at, wiped, Different}
 use Rattle.names.specs.Finding.{name_of, number_in}
 use Rattle.names.specs.Entering.{enter_answer, names_after, back_answer, names_left}

@@ -1,5 +1,5 @@
 -- The tables of a list of names: the byte pool and the name table, and how they are written.
-use Rattle.std.specs.Prelude.{◌≡◌, ℕ, ◌+◌, ◌-◌, ◌<◌, List, [], ◌∷◌, ◌++◌, map, length, take, drop, replicate, ◌≢◌, slice_index_or}
+use Rattle.std.specs.Prelude.{ℕ, ◌+◌, ◌-◌, ◌<◌, List, [], ◌∷◌, ◌++◌, map, length, take, drop, replicate, ◌≢◌, slice_index_or}
 use Rattle.names.specs.declared.span.Span.{Span}
 
 abbrev pub span : ℕ → ℕ → Span

@@ -13,7 +13,7 @@ use Rattle.order.proofs.Lowest.{lowest_none, lowest_some}
 use Rattle.order.proofs.Rounds.{down_round, walked_stays, walked_linked, round_loop}
 use Rattle.order.proofs.Tallies.{tally_gap}
 use Rattle.order.proofs.Places.{rank_tells}
-use Rattle.order.proofs.Orders.{Sound, order_sound, order_ends, order_fits, subtypes_not}
+use Rattle.order.proofs.Orders.{order_sound, order_ends, order_fits, subtypes_not}
 
 module _ (n : ℕ) (links : List Link) (short : length (order_of n links) < n) where
   stuck : lowest (ready links (order_of n links)) 0 n ≡ None

@@ -11,7 +11,7 @@ use Rattle.order.specs.Meaning.{RanksRise, UnrankedWhereLoop, Once, EachTypeOnce
 use Rattle.order.specs.Worked.{SelfLoop}
 use Rattle.order.proofs.Tallies.{tally_full}
 use Rattle.order.proofs.Places.{ranked-at, at-ranked, ranked_rank}
-use Rattle.order.proofs.Orders.{Sound, order_sound, order_fits}
+use Rattle.order.proofs.Orders.{order_sound, order_fits}
 use Rattle.order.proofs.Left.{left_has, left_some}
 use Rattle.order.proofs.Rounds.{some_loop}
 

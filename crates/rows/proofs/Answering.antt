@@ -1,5 +1,5 @@
 -- A row entry at most the position is exactly descent.
-use Rattle.std.proofs.Common.{◌≡◌, ℕ, ◌+◌, ◌*◌, ◌<◌, ◌≤◌, ◌⊎◌, List, get_or, refl, ⊎_elim, arith}
+use Rattle.std.proofs.Common.{◌≡◌, ℕ, ◌+◌, ◌*◌, ◌<◌, ◌≤◌, List, get_or, refl, ⊎_elim, arith}
 use Rattle.descent.specs.declared.link.Link.{Link}
 use Rattle.descent.specs.Computed.{descends}
 use Rattle.descent.specs.Links.{Descends}

@@ -1,5 +1,5 @@
 -- One value written throughout.
-use Rattle.std.proofs.Common.{◌≡◌, ℕ, ◌+◌, ◌<◌, ◌≤◌, List, [], ◌∷◌, ◌++◌, length, take, drop, set, replicate, sym, ap, ◌∙◌, arith}
+use Rattle.std.proofs.Common.{◌≡◌, ℕ, ◌+◌, ◌<◌, ◌≤◌, List, [], ◌∷◌, ◌++◌, length, take, set, replicate, sym, ap, ◌∙◌, arith}
 use Rattle.std.proofs.lemmas.List.{take_more_set, replicate_more, take_all}
 
 pub fill_step : {X : Type 0} (xs : List X) (i : ℕ) (y : X) → i < length xs → take i xs ≡ replicate i y → take (i + 1) (set xs i y) ≡ replicate (i + 1) y

@@ -1,5 +1,5 @@
 -- The two parts of settling together.
-use Rattle.std.proofs.Common.{◌≡◌, ℕ, ◌-◌, ◌*◌, ◌<◌, ◌≤◌, List, ◌++◌, length, take, drop, Ok, Err, Result, sym, refl, ap, ◌∙◌, subst, arith}
+use Rattle.std.proofs.Common.{◌≡◌, ℕ, ◌-◌, ◌*◌, ◌≤◌, List, ◌++◌, length, take, drop, Ok, Err, Result, sym, ap, ◌∙◌, subst}
 use Rattle.descent.specs.declared.link.Link.{Link}
 use Rattle.order.specs.Order.{order_of}
 use Rattle.rows.specs.KeptEntries.{kept_of}

@@ -1,7 +1,7 @@
 -- A whole order ranks each type.
-use Rattle.std.proofs.Common.{◌≡◌, ℕ, ◌+◌, ◌-◌, ◌<◌, ◌≤◌, List, ◌++◌, length, get_or, take, drop, sym, refl, ap, ◌∙◌, subst, arith, length-take}
+use Rattle.std.proofs.Common.{◌≡◌, ℕ, ◌+◌, ◌-◌, ◌<◌, ◌≤◌, List, ◌++◌, length, get_or, take, drop, sym, ap, ◌∙◌, subst, arith, length-take}
 use Rattle.descent.specs.declared.link.Link.{Link}
-use Rattle.descent.specs.Links.{no_link, Linked, Within}
+use Rattle.descent.specs.Links.{Within}
 use Rattle.order.specs.Order.{order_of}
 use Rattle.order.specs.Ranks.{rank_of, ranks_of}
 use Rattle.order.proofs.Left.{table_rank}

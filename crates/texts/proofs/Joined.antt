@@ -1,5 +1,5 @@
 -- The lines of a text, joined again.
-use Rattle.std.proofs.Common.{◌≡◌, ℕ, suc, ◌+◌, Bool, true, false, cond, eqb, List, [], ◌∷◌, ◌++◌, length, sym, refl, ap, ◌∙◌, subst, arith, eqb-true}
+use Rattle.std.proofs.Common.{◌≡◌, ℕ, suc, ◌+◌, Bool, true, false, cond, eqb, List, [], ◌∷◌, length, sym, refl, ap, ◌∙◌, subst, arith, eqb-true}
 use Rattle.texts.specs.Texts.{newline, before, lines_of}
 use Rattle.texts.specs.Joined.{joined, newlines, NoNewlines, LinesMakeTheText}
 

@@ -1,5 +1,5 @@
 -- The lines of a text, one after another.
-use Rattle.std.specs.Prelude.{◌≡◌, ℕ, suc, Bool, cond, List, [], ◌∷◌, Some, None, Option, ◌==◌}
+use Rattle.std.specs.Prelude.{◌≡◌, ℕ, suc, cond, List, [], ◌∷◌, Some, None, Option, ◌==◌}
 use Rattle.texts.specs.Texts.{newline, lines_of}
 
 -- how many bytes stand before the first byte 10

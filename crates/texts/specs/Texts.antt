@@ -1,7 +1,6 @@
 -- The lines of a text, and what is refused of a pair of texts.
-use Rattle.std.specs.Prelude.{ℕ, zero, suc, ◌+◌, Bool, cond, List, [], ◌∷◌, length, None, Ok, Err, Option, Result, ◌==◌, nat_lt}
+use Rattle.std.specs.Prelude.{ℕ, zero, suc, ◌+◌, cond, List, [], ◌∷◌, length, None, Ok, Err, Option, Result, ◌==◌, nat_lt}
 use Rattle.std.specs.List.{slice_get}
-use Rattle.grammar.specs.declared.fault.Fault.{Fault}
 use Rattle.texts.specs.declared.refusal.Source.{Source}
 use Rattle.texts.specs.declared.refusal.Source.TheVariants.{Shipped, Own}
 use Rattle.texts.specs.declared.refusal.Refusal.{Refusal}

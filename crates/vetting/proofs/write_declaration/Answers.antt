@@ -1,4 +1,4 @@
-use Rattle.std.proofs.Common.{◌≡◌, [], ◌∷◌, ◌++◌, map, vec_items, codes, ap, ◌∙◌}
+use Rattle.std.proofs.Common.{[], ◌∷◌, ◌++◌, map, vec_items, codes, ap, ◌∙◌}
 use Rattle.grammar.specs.Declarations.{name_of}
 use Rattle.vetting.specs.Vetting.{shown_bases}
 use Rattle.vetting.proofs.Written.{declaration_written}

@@ -1,4 +1,4 @@
-use Rattle.std.proofs.Common.{◌≡◌, ℕ, ◌+◌, ◌-◌, ◌<◌, length, sym, ap, ◌∙◌, arith, length-set}
+use Rattle.std.proofs.Common.{◌+◌, ◌-◌, ◌<◌, sym, ap, ◌∙◌, arith, length-set}
 use Rattle.chains.specs.ChainOrder.{Line}
 use Rattle.chains.proofs.Lines.{line, lengthened_none, lengthened_some}
 use Rattle.chains.specs.NextBases.{next_base_some}

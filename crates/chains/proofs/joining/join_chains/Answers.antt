@@ -1,7 +1,7 @@
-use Rattle.std.proofs.Common.{◌≡◌, ℕ, ◌<◌, ◌≤◌, List, map, length, get_or, sym, ap, ◌∙◌, subst, arith}
+use Rattle.std.proofs.Common.{◌≡◌, ℕ, List, map, length, get_or, sym, ap, ◌∙◌, arith}
 use Rattle.std.specs.List.{range_with_len}
 use Rattle.chains.specs.Ends.{has_last}
-use Rattle.chains.specs.Joining.{turns, renumbered}
+use Rattle.chains.specs.Joining.{renumbered}
 use Rattle.chains.specs.Places.{places}
 use Rattle.chains.specs.Counts.{passing_le}
 use Rattle.chains.proofs.JoiningTables.{firsts_on, all_stand, renumbered_table}

@@ -1,4 +1,4 @@
-use Rattle.std.proofs.Common.{◌≡◌, ℕ, ◌+◌, ◌≤◌, List, length, get_or, replicate, sym, ap, ◌∙◌, subst, arith, length-set, rules}
+use Rattle.std.proofs.Common.{◌≡◌, ℕ, ◌+◌, List, length, get_or, replicate, sym, ap, ◌∙◌, subst, arith, length-set, rules}
 use Rattle.std.proofs.lemmas.List.{get_or-replicate}
 use Rattle.chains.proofs.Marking.{Marking, marking_none, marking_skip, marking_more, marking_all}
 use Rattle.chains.proofs.joining.mark_paths.Goals as goal

@@ -1,6 +1,5 @@
-use Rattle.std.proofs.Common.{◌≡◌, List, [], ◌∷◌, ◌++◌, map, Some, None, Ok, Err, vec_items, sym, refl, ap, ◌∙◌, subst, append-nil, arith}
-use Rattle.grammar.specs.Grammar.{Named}
-use Rattle.grammar.specs.Reading.{base, in_name, fresh, lawful, all_names}
+use Rattle.std.proofs.Common.{◌++◌, map, Ok, vec_items, sym, refl, ap, ◌∙◌, subst, append-nil}
+use Rattle.grammar.specs.Reading.{base, in_name, fresh, lawful}
 use Rattle.grammar.specs.Posts.{onward, recalled, NextRead}
 use Rattle.grammar.specs.Declarations.{name_of, with_bases}
 use Rattle.grammar.proofs.Outer.{then_base}

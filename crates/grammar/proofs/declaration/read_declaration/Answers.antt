@@ -1,4 +1,4 @@
-use Rattle.std.proofs.Common.{◌≡◌, [], Some, None, Ok, Err, sym, refl, ap, ◌∙◌, subst}
+use Rattle.std.proofs.Common.{[], Ok, ◌∙◌, subst}
 use Rattle.grammar.specs.Reading.{first, all_names}
 use Rattle.grammar.specs.Posts.{recalled, NextRead}
 use Rattle.grammar.specs.Declarations.{names_of, with_bases}

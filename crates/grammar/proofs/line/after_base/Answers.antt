@@ -1,4 +1,4 @@
-use Rattle.std.proofs.Common.{◌≡◌, sym, refl, ap, ◌∙◌, arith}
+use Rattle.std.proofs.Common.{◌∙◌, arith}
 use Rattle.grammar.specs.Reading.{base, ended}
 use Rattle.grammar.specs.Posts.{misfit}
 use Rattle.grammar.proofs.Outer.{name_over, next_refused, after_base_not, to_parted, parted_not, to_base_parted}

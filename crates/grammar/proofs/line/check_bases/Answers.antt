@@ -1,6 +1,6 @@
-use Rattle.std.proofs.Common.{◌≡◌, Some, None, Ok, Err, sym, refl, ap, ◌∙◌, subst, arith}
-use Rattle.grammar.specs.Reading.{base, in_name, fresh, closed, all_names, unlawful}
-use Rattle.grammar.specs.Posts.{onward, recalled, NextRead, verdict}
+use Rattle.std.proofs.Common.{Ok, sym, refl, ap, ◌∙◌, subst}
+use Rattle.grammar.specs.Reading.{base, all_names}
+use Rattle.grammar.specs.Posts.{recalled, NextRead, verdict}
 use Rattle.grammar.proofs.Outer.{verdict_refused, then_base}
 use Rattle.grammar.proofs.line.check_bases.Goals as goal
 

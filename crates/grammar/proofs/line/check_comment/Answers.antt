@@ -1,5 +1,5 @@
-use Rattle.std.proofs.Common.{◌≡◌, ℕ, ◌+◌, true, false, cond, sym, refl, ap, ◌∙◌, arith}
-use Rattle.std.proofs.lemmas.List.{at_drop_more, at_drop_all}
+use Rattle.std.proofs.Common.{◌≡◌, ◌+◌, sym, ◌∙◌, arith}
+use Rattle.std.proofs.lemmas.List.{at_drop_all}
 use Rattle.grammar.specs.Reading.{comment, nothing, reading_from}
 use Rattle.grammar.proofs.Outer.{comment_more, comment_stops}
 use Rattle.grammar.proofs.line.check_comment.Goals as goal

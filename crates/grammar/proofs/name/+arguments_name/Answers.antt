@@ -1,4 +1,4 @@
-use Rattle.std.proofs.Common.{◌≡◌, ℕ, suc, ◌+◌, ◌-◌, ◌<◌, ◌≤◌, List, length, get_or, sym, refl, ap, ◌∙◌, subst, add-one, arith}
+use Rattle.std.proofs.Common.{◌≡◌, ℕ, suc, ◌+◌, ◌-◌, ◌<◌, ◌≤◌, List, get_or, sym, refl, ap, ◌∙◌, add-one, arith}
 use Rattle.grammar.specs.Bytes.{comma, opening, closing}
 use Rattle.grammar.specs.Grammar.{Named}
 use Rattle.grammar.specs.Reading.{Part, in_name, fresh, in_word, closed, fault, unlawful}

@@ -1,4 +1,4 @@
-use Rattle.std.proofs.Common.{◌≡◌, ℕ, ◌-◌, ◌<◌, ◌≤◌, List, length}
+use Rattle.std.proofs.Common.{◌≡◌, ◌-◌, ◌<◌, ◌≤◌, List, length}
 use Rattle.grammar.specs.Grammar.{Named}
 use Rattle.grammar.specs.Reading.{Part, in_name, fresh, in_word}
 use Rattle.grammar.specs.Posts.{onward, recalled}

@@ -1,4 +1,4 @@
-use Rattle.std.proofs.Common.{◌≡◌, ◌-◌, ◌≤◌, List, length, take, sym, subst, arith, length-take}
+use Rattle.std.proofs.Common.{List, take, sym, subst, arith, length-take}
 use Rattle.descent.specs.declared.link.Link.{Link}
 use Rattle.descent.specs.Links.{Within}
 use Rattle.rows.specs.KeptEntries.{Different}

@@ -1,4 +1,4 @@
-use Rattle.std.proofs.Common.{◌≡◌, ◌<◌, ◌≤◌, length, set, ap, ◌∙◌, arith}
+use Rattle.std.proofs.Common.{◌≡◌, set, ap, ◌∙◌, arith}
 use Rattle.names.specs.Tables.{wiped}
 use Rattle.names.proofs.Padding.{wiped_none, wiped_more}
 use Rattle.names.proofs.writing.wipe.Goals as goal

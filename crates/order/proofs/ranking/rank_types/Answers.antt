@@ -1,6 +1,6 @@
 use Rattle.std.proofs.Common.{refl, ◌∙◌, arith}
 use Rattle.std.proofs.lemmas.List.{drop-set-lt}
-use Rattle.order.proofs.Rankings.{Tables, Ranking, ranking_none, next_place, next_type_lem, next_waits, next_ranking, end_order, end_count, end_ranks, rest_more}
+use Rattle.order.proofs.Rankings.{ranking_none, next_place, next_type_lem, next_waits, next_ranking, end_order, end_count, end_ranks, rest_more}
 use Rattle.order.proofs.ranking.rank_types.Goals as goal
 
 pub loop-t-init : goal.loop-t-init

@@ -1,4 +1,4 @@
-use Rattle.std.proofs.Common.{◌≡◌, ℕ, ◌<◌, ◌≤◌, List, length, get_or, take, drop, sym, refl, ap, ◌∙◌, subst, arith}
+use Rattle.std.proofs.Common.{◌≡◌, ℕ, List, length, take, sym, refl, ap, ◌∙◌, subst, arith}
 use Rattle.order.specs.Order.{order_of}
 use Rattle.order.proofs.Orders.{order_fits}
 use Rattle.chains.specs.Ranked.{Ranked, Falling}

@@ -1,4 +1,4 @@
-use Rattle.std.proofs.Common.{◌≡◌, ℕ, ◌-◌, ◌≤◌, List, length, take, drop, sym, refl, ap, ◌∙◌, subst, arith}
+use Rattle.std.proofs.Common.{ℕ, ◌-◌, List, take, sym, ◌∙◌, subst, arith}
 use Rattle.order.specs.Order.{order_of}
 use Rattle.chains.specs.Ranked.{Ranked}
 use Rattle.chains.specs.Chains.{Chained}

@@ -1,5 +1,4 @@
-use Rattle.std.proofs.Common.{◌≡◌, List, replicate, sym, refl, ap, ◌∙◌, subst, arith}
-use Rattle.descent.specs.declared.link.Link.{Link}
+use Rattle.std.proofs.Common.{sym, refl, ap, subst, arith}
 use Rattle.descent.specs.Links.{no_link}
 use Rattle.hierarchy.specs.Tables.{ZeroFrom}
 use Rattle.hierarchy.proofs.LinkTables.{zero_everywhere}
@@ -8,26 +7,17 @@ use Rattle.hierarchy.proofs.book.Hierarchy.new.Goals as goal
 
 pub invariant_of-entered : goal.invariant_of-entered
 invariant_of-entered c =
-    let n = c.args.links.len in (
-      (omega arith, omega arith),
-      (
-        (omega arith, omega arith),
-        (
-          λ k h. absurd (omega arith),
-          (
-            λ i j h k e. omega arith,
-            (
-              subst (ZeroFrom 0) (sym (refilled_with c.args.links.items c.clear.new.links c.deref_mut.result.now n no_link c.clear.ensures c.deref_mut.ensures.len))
-                  (λ i h. zero_everywhere n i),
-              tt,
-            ),
-          ),
-        ),
-      ),
-    )
+    let n = c.args.links.len in
+    record {
+      few_types = (omega arith, omega arith);
+      few_links = (omega arith, omega arith);
+      within = λ k h. absurd (omega arith);
+      different = λ i j h k e. omega arith;
+      zeros = subst (ZeroFrom 0) (sym (refilled_with c.args.links.items c.clear.new.links c.deref_mut.result.now n no_link c.clear.ensures c.deref_mut.ensures.len)) (λ i h. zero_everywhere n i);
+    }
 
 pub invariant_of-result : goal.invariant_of-result
-invariant_of-result c = (∣ tt ∣₁, tt)
+invariant_of-result c = record { answering = ∣ tt ∣₁ }
 
 pub returns : goal.returns
 returns c =

@@ -1,9 +1,7 @@
-use Rattle.std.proofs.Common.{◌≡◌, ℕ, List, ◌++◌, length, take, drop, Option, sym, refl, ap, ◌∙◌, subst}
+use Rattle.std.proofs.Common.{ℕ, ◌++◌, length, take, drop, Option, sym, refl, ap, ◌∙◌, subst}
 use mathlib.Core.Logic.{∥∥₁_map}
 use Rattle.hierarchy.specs.Entering.{held_of, links_in}
 use Rattle.hierarchy.specs.Answering.{Answering}
-use Rattle.hierarchy.specs.Books.{book_of}
-use Rattle.hierarchy.specs.SettledBooks.{settled_by, tables_of}
 use Rattle.hierarchy.proofs.LinkTables.{refilled_is}
 use Rattle.hierarchy.proofs.SettledTables.{answering_after, same_tables, same_sizes, settles_same}
 use Rattle.hierarchy.proofs.book.Hierarchy.settle.Goals as goal
@@ -22,13 +20,13 @@ invariant_of-self g c =
     let k = refilled_is s.kept.items a.new.kept c.deref_mut-4.result.now s.kept.len a.auto.kept c.deref_mut-4.ensures.len in
     let i = refilled_is s.index.items a.new.index c.deref_mut-5.result.now s.index.len a.auto.index c.deref_mut-5.ensures.len in
     let after = same_tables a.new.table a.new.scratch (sym o) (sym ch) (sym p) (sym k) (sym i) in
-    let told = settles_same G n links a.result before after a.ensures in (
-      subst (λ (x : Option ℕ). ∥ Answering x n links (take s.order.len (a.new.order ++ drop (length a.new.order) s.order.items)) (take s.chain.len (a.new.chain ++ drop (length a.new.chain) s.chain.items)) (take s.position.len (a.new.position ++ drop (length a.new.position) s.position.items)) (take s.kept.len (a.new.kept ++ drop (length a.new.kept) s.kept.items)) (take s.index.len (a.new.index ++ drop (length a.new.index) s.index.items)) ∥₁)
+    let told = settles_same G n links a.result before after a.ensures in
+    record {
+      answering = subst (λ (x : Option ℕ). ∥ Answering x n links (take s.order.len (a.new.order ++ drop (length a.new.order) s.order.items)) (take s.chain.len (a.new.chain ++ drop (length a.new.chain) s.chain.items)) (take s.position.len (a.new.position ++ drop (length a.new.position) s.position.items)) (take s.kept.len (a.new.kept ++ drop (length a.new.kept) s.kept.items)) (take s.index.len (a.new.index ++ drop (length a.new.index) s.index.items)) ∥₁)
           (sym c.settled_by-self.ensures)
           (∥∥₁_map s.answering (answering_after G (g.met.D.Decomposer.meaning c.args.decomposer.now) n links _ _ s.chains s.entered.few_types.1 s.entered.within
-          (ap length ch ∙ a.auto.chain ∙ ap length c.deref_mut-2.ensures.value) (ap length p ∙ a.auto.position ∙ ap length c.deref_mut-3.ensures.value) a.result told)),
-      tt,
-    )
+          (ap length ch ∙ a.auto.chain ∙ ap length c.deref_mut-2.ensures.value) (ap length p ∙ a.auto.position ∙ ap length c.deref_mut-3.ensures.value) a.result told));
+    }
 
 pub returns : goal.returns
 returns g c =
@@ -45,11 +43,13 @@ returns g c =
     let i = refilled_is s.index.items a.new.index c.deref_mut-5.result.now s.index.len a.auto.index c.deref_mut-5.ensures.len in
     let after = same_tables a.new.table a.new.scratch (sym o) (sym ch) (sym p) (sym k) (sym i) in
     record {
-      number = refl;
-      held = refl;
-      settled = c.settled_by-self.ensures;
+      settles = record {
+        number = refl;
+        held = refl;
+        settled = c.settled_by-self.ensures;
+        tables = settles_same G n links a.result before after a.ensures;
+      };
       sizes =
           same_sizes (ap length o ∙ a.auto.order ∙ ap length c.deref_mut.ensures.value) (ap length ch ∙ a.auto.chain ∙ ap length c.deref_mut-2.ensures.value) (ap length p ∙ a.auto.position ∙ ap length c.deref_mut-3.ensures.value)
           (ap length k ∙ a.auto.kept ∙ ap length c.deref_mut-4.ensures.value) (ap length i ∙ a.auto.index ∙ ap length c.deref_mut-5.ensures.value);
-      tables = settles_same G n links a.result before after a.ensures;
     }

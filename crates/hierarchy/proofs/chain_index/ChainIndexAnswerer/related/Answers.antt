@@ -1,10 +1,9 @@
-use Rattle.std.proofs.Common.{◌≡◌, ◌*◌, ◌<◌, Bool, true, false, cond, Decides, sym, refl, ap, ◌∙◌, arith}
+use Rattle.std.proofs.Common.{◌≡◌, ◌*◌, ◌<◌, Bool, true, false, Decides, sym, refl, ◌∙◌, arith}
 use mathlib.Core.Bool.{Bool-set}
 use mathlib.Core.Logic.{∥∥₁_elim}
 use Rattle.rows.proofs.RowPlaces.{row_fits}
 use borrow.Author.Tests.{clash}
 use Rattle.descent.specs.Answers.{Tells}
-use Rattle.descent.specs.Links.{Descends}
 use Rattle.descent.specs.Computed.{descends}
 use Rattle.descent.proofs.Closures.{decides_descends}
 use Rattle.hierarchy.proofs.SettledTables.{not_refused}

@@ -1,4 +1,4 @@
-use Rattle.std.proofs.Common.{◌≡◌, ◌≤◌, true, false, cond, ◌||◌, ltb, List, ◌++◌, length, take, drop, None, Ok, Err, sym, ap, ◌∙◌, subst, arith, le-ltb}
+use Rattle.std.proofs.Common.{◌≡◌, ◌≤◌, cond, ◌||◌, ltb, List, ◌++◌, length, take, drop, None, Err, sym, ap, ◌∙◌, subst, arith, le-ltb}
 use Rattle.descent.specs.declared.link.Link.{Link}
 use Rattle.descent.specs.Links.{Within}
 use Rattle.descent.specs.Refusals.{stray_end}
@@ -20,19 +20,14 @@ invariant_of-self c =
     let after : take s.links.len (ws ++ drop (length ws) xs) ≡ cleared k xs =
     refilled_is xs ws c.deref_mut.result.now s.links.len c.clear_links.auto.links c.deref_mut.ensures.len ∙ c.clear_links.ensures ∙ ap (cleared k) c.deref_mut.ensures.value in
     let front : take k (take s.links.len (ws ++ drop (length ws) xs)) ≡ take k xs = ap (take k) after ∙ cleared_front xs k fit in
-    let none : stray_end c.args.types (take k xs) ≡ None = ap (stray_end c.args.types) (sym (front_of c.deref.result.now xs k c.deref.ensures.value)) ∙ sym c.in_default.ensures in (
-      (omega arith, omega arith),
-      (
-        (omega arith, omega arith),
-        (
-          subst (λ (ls : List Link). Within ls c.args.types) (sym front) (within_from_no_stray c.args.types (take k xs) none),
-          (
-            subst Distinct (sym front) (distinct_front xs k fit s.count (omega arith) (omega arith) s.different),
-            (subst (ZeroFrom k) (sym after) (cleared_zero xs k fit), tt),
-          ),
-        ),
-      ),
-    )
+    let none : stray_end c.args.types (take k xs) ≡ None = ap (stray_end c.args.types) (sym (front_of c.deref.result.now xs k c.deref.ensures.value)) ∙ sym c.in_default.ensures in
+    record {
+      few_types = (omega arith, omega arith);
+      few_links = (omega arith, omega arith);
+      within = subst (λ (ls : List Link). Within ls c.args.types) (sym front) (within_from_no_stray c.args.types (take k xs) none);
+      different = subst Distinct (sym front) (distinct_front xs k fit s.count (omega arith) (omega arith) s.different);
+      zeros = subst (ZeroFrom k) (sym after) (cleared_zero xs k fit);
+    }
 
 pub returns : goal.returns
 returns c =

@@ -1,6 +1,6 @@
-use Rattle.std.proofs.Common.{◌≡◌, ℕ, ◌+◌, ◌<◌, ◌≤◌, leb, length, take, Err, vec_items, sym, refl, ap, ◌∙◌, ap₂, arith}
+use Rattle.std.proofs.Common.{◌≤◌, leb, length, Err, sym, refl, ap, ◌∙◌, arith}
 use Rattle.std.proofs.lemmas.Bool.{cond-true, cond-false, le-leb, lt-leb}
-use Rattle.names.specs.Held.{names_in, pool_size, table_size}
+use Rattle.names.specs.Held.{names_in}
 use Rattle.names.proofs.Keeping.{counted, holds_itself, holds_laid}
 use Rattle.names.proofs.Laying.{laid_kept}
 use Rattle.names.proofs.Changing.{fewer_bytes, laid_left}

@@ -1,4 +1,4 @@
-use Rattle.std.proofs.Common.{◌≡◌, ℕ, List, ◌++◌, codes, decimal, sym, ap, subst, ap₂}
+use Rattle.std.proofs.Common.{ℕ, List, ◌++◌, codes, decimal, sym, ap, subst, ap₂}
 use Rattle.std.specs.Fmt.{HasWritten}
 use Rattle.names.specs.Refusals.{reason_of}
 use Rattle.names.proofs.refusal.RefusalDisplay.fmt.Goals as goal
