@@ -1,5 +1,5 @@
 -- Questions about types of a settled register.
-use Rattle.std.proofs.Common.{◌≡◌, ℕ, ◌<◌, Bool, true, false, List, length, Some, None, Ok, Err, Decides, Option, Result, sym, refl, ap, ◌∙◌, subst, arith}
+use Rattle.std.proofs.Common.{◌≡◌, ℕ, ◌<◌, Bool, true, false, List, length, Some, None, Ok, Decides, Option, sym, refl, ap, ◌∙◌, arith}
 use Rattle.descent.specs.declared.link.Link.{Link}
 use Rattle.descent.specs.Answers.{Tells}
 use Rattle.descent.specs.Computed.{descends}
@@ -7,8 +7,6 @@ use Rattle.descent.specs.Links.{Descends}
 use Rattle.descent.proofs.Closures.{decides_descends}
 use Rattle.hierarchy.specs.Indexes.{types_of}
 use Rattle.names.specs.Finding.{number_in}
-use Rattle.register.specs.declared.refusal.NotAsked.{NotAsked}
-use Rattle.register.specs.declared.refusal.NotAsked.TheVariants.{NotSettled, Unknown}
 use Rattle.register.specs.Asking.{numbers_found, numbers_answer}
 use Rattle.register.proofs.Parts.{number_bound}
 

@@ -1,14 +1,13 @@
 -- Taking back, by the numbered book and by the register.
-use Rattle.std.proofs.Common.{◌≡◌, ℕ, suc, ◌-◌, ◌<◌, ◌≤◌, Bool, true, false, cond, ◌||◌, ltb, ◌⊎◌, List, [], ◌∷◌, ◌++◌, length, get_or, take, replicate, is_err, Some, None, Ok, Err, Option, Result, sym, refl, ap, ◌∙◌, subst, inl, inr, arith, length-append}
+use Rattle.std.proofs.Common.{◌≡◌, ℕ, suc, ◌-◌, ◌≤◌, Bool, true, false, ◌||◌, ltb, List, [], ◌∷◌, ◌++◌, length, take, replicate, is_err, Some, None, Ok, Err, Option, Result, sym, refl, ap, ◌∙◌, subst, inl, inr, arith, length-append}
 use Rattle.std.proofs.lemmas.List.{take-take, take_at, length-take-le, length-replicate}
-use Rattle.std.proofs.lemmas.Bool.{cond-true, cond-false, ltb-true, ltb-false, le-ltb, lt-ltb, cases_Bool, false≢true, true≢false}
+use Rattle.std.proofs.lemmas.Bool.{cond-true, cond-false, ltb-false, le-ltb, lt-ltb, cases_Bool, false≢true, true≢false}
 use Rattle.descent.specs.declared.link.Link.{Link}
 use Rattle.descent.specs.Links.{Within, no_link}
 use Rattle.descent.specs.Refusals.{stray_end}
-use Rattle.hierarchy.specs.declared.refusal.Refusal.{Refusal as NumberRefusal}
 use Rattle.hierarchy.specs.declared.refusal.Refusal.TheVariants.{NotEntered}
 use Rattle.hierarchy.specs.Books.{Book, book_of, after_back as after_back_book}
-use Rattle.hierarchy.specs.Entering.{Held, links_in, left_answer, cleared, back_answer as back_answer_held}
+use Rattle.hierarchy.specs.Entering.{links_in, left_answer, cleared, back_answer as back_answer_held}
 use Rattle.std.specs.Result.{result_ok}
 use Rattle.hierarchy.specs.Indexes.{settled_answer}
 use Rattle.register.specs.declared.refusal.Refusal.{Refusal}

@@ -1,12 +1,12 @@
 -- Entries that come in after others.
-use Rattle.std.proofs.Common.{◌≡◌, ℕ, Bool, true, false, cond, List, [], ◌∷◌, ◌++◌, IsErrAnd, Some, None, Ok, Err, Option, Result, sym, refl, ap, ◌∙◌, subst, append_assoc}
+use Rattle.std.proofs.Common.{◌≡◌, ℕ, Bool, true, false, cond, List, [], ◌∷◌, ◌++◌, IsErrAnd, Some, None, Err, Option, Result, sym, refl, ap, ◌∙◌, subst, append_assoc}
 use Rattle.std.proofs.lemmas.List.{append-nil}
 use Rattle.std.proofs.lemmas.Result.{err_from_is_err_and}
 use Rattle.descent.specs.declared.link.Link.{Link}
 use Rattle.descent.specs.Links.{link}
 use Rattle.hierarchy.specs.Entering.{has_link}
 use Rattle.names.specs.Finding.{number_in}
-use Rattle.register.specs.Entries.{Entries, entries, unless_known, number_for, with_name, with_link, with_base}
+use Rattle.register.specs.Entries.{entries, unless_known, number_for, with_name, with_base}
 use Rattle.register.specs.Contents.{Contents, contents, changed}
 use Rattle.register.specs.Growing.{Grown}
 

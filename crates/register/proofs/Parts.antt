@@ -1,27 +1,25 @@
 -- The contents of a register from those of its names and of the numbered book.
-use Rattle.std.proofs.Common.{◌≡◌, ℕ, ◌+◌, ◌<◌, ◌≤◌, Bool, true, false, cond, ◌&&◌, ltb, ◌⊎◌, List, [], ◌∷◌, ◌++◌, length, take, set, Some, None, Ok, Err, Option, Result, sym, refl, ap, ◌∙◌, subst, inl, inr, arith, length-append, length-set}
+use Rattle.std.proofs.Common.{◌≡◌, ℕ, ◌+◌, ◌<◌, ◌≤◌, Bool, true, false, cond, ◌&&◌, ltb, List, [], ◌∷◌, ◌++◌, length, take, set, Some, None, Ok, Err, Option, Result, sym, refl, ap, ◌∙◌, inl, inr, arith, length-append, length-set}
 use Rattle.std.proofs.lemmas.List.{take_more_set, length-take-le}
 use Rattle.std.proofs.lemmas.Bool.{cond-true, cond-false, lt-ltb, ltb-true, and_parts, cases_Bool}
 use Rattle.std.specs.Str.{bytes_eq}
-use Rattle.descent.specs.declared.link.Link.{Link}
 use Rattle.descent.specs.Links.{link}
 use Rattle.hierarchy.specs.declared.entering.Entry.{Entry as LinkEntry}
 use Rattle.hierarchy.specs.declared.entering.Entry.TheVariants.{New as NewLink, Known as KnownLink}
 use Rattle.hierarchy.specs.declared.refusal.Refusal.{Refusal as NumberRefusal}
-use Rattle.hierarchy.specs.declared.refusal.Refusal.TheVariants.{NoTypePlace as NoType, NoLinkPlace as NoLink, NotBelow, NotEntered}
-use Rattle.hierarchy.specs.Books.{Book, book_of, after_type, after_link, changed as changed_book}
+use Rattle.hierarchy.specs.declared.refusal.Refusal.TheVariants.{NoLinkPlace as NoLink}
+use Rattle.hierarchy.specs.Books.{Book, book_of, after_type, after_link}
 use Rattle.hierarchy.specs.Entering.{Held, links_in, has_link, type_answer, link_answer}
-use Rattle.names.specs.declared.refusal.Entry.{Entry}
 use Rattle.names.specs.declared.refusal.Entry.TheVariants.{Known, New}
 use Rattle.names.specs.declared.refusal.Refusal.{Refusal as NameRefusal}
 use Rattle.names.specs.declared.refusal.Refusal.TheVariants.{NoTypePlace as NoEntry, NoBytePlace as NoBytes}
-use Rattle.names.specs.Entering.{has_entry, has_bytes, place_answer, answer_by, enter_answer, names_after}
+use Rattle.names.specs.Entering.{has_entry, has_bytes, place_answer, answer_by, enter_answer}
 use Rattle.names.specs.Finding.{number_in, number_from}
 use Rattle.texts.specs.declared.refusal.Place.{Place}
 use Rattle.register.specs.declared.refusal.Refusal.{Refusal}
 use Rattle.register.specs.declared.refusal.Refusal.TheVariants.{NoLinkPlace}
-use Rattle.register.specs.Entries.{Entries, entries, number_for, number_or, unless_known, with_name, with_link, with_base}
-use Rattle.register.specs.Places.{Room, room, first, no_name, no_link_place, no_base, name_refusal}
+use Rattle.register.specs.Entries.{entries, number_for, number_or, unless_known, with_name, with_base}
+use Rattle.register.specs.Places.{room, first, no_name, no_link_place, no_base}
 use Rattle.register.specs.declared.register.Register.{Register}
 use Rattle.register.specs.Contents.{Contents, contents, contents_of, changed}
 use Rattle.register.specs.Growing.{NameEnters}

@@ -5,7 +5,6 @@ use Rattle.descent.specs.Computed.{descends}
 use Rattle.names.specs.Finding.{number_in}
 use Rattle.register.specs.declared.refusal.NotAsked.{NotAsked}
 use Rattle.register.specs.declared.refusal.NotAsked.TheVariants.{NotSettled, Unknown}
-use Rattle.register.specs.Entries.{Entries}
 use Rattle.register.specs.Contents.{Contents}
 
 -- the numbers of two names, or which is the first unknown one

@@ -1,7 +1,6 @@
 -- What a register holds, all tables included: the pool and the name table follow from the names, the link table from the links.
-use Rattle.std.specs.Prelude.{◌≡◌, ℕ, cond, ◌||◌, List, [], length, take, replicate, Some, None, Ok, Err, Option, Result, nat_lt}
-use Rattle.descent.specs.declared.link.Link.{Link}
-use Rattle.hierarchy.specs.Books.{Book, Written, book_of}
+use Rattle.std.specs.Prelude.{◌≡◌, ℕ, cond, ◌||◌, List, length, take, replicate, None, Ok, Err, Option, Result, nat_lt}
+use Rattle.hierarchy.specs.Books.{Written, book_of}
 use Rattle.descent.specs.Refusals.{stray_end}
 use Rattle.hierarchy.specs.declared.refusal.Refusal.{Refusal as NumberRefusal}
 use Rattle.hierarchy.specs.declared.refusal.Refusal.TheVariants.{NotEntered}

@@ -1,9 +1,7 @@
-use Rattle.std.proofs.Common.{◌≡◌, ℕ, length, Some, None, Ok, Err, Option, Result, sym, refl, ap, ◌∙◌, subst, arith}
-use Rattle.descent.specs.declared.refusal.Refusal.{Refusal}
+use Rattle.std.proofs.Common.{◌≡◌, ℕ, length, Some, None, Ok, sym, ap, ◌∙◌, arith}
 use Rattle.descent.specs.Refusals.{question_refusal}
 use Rattle.hierarchy.specs.Indexes.{types_of}
 use Rattle.hierarchy.proofs.SettledTables.{not_refused}
-use Rattle.register.specs.declared.refusal.NotAsked.{NotAsked}
 use Rattle.register.specs.Asking.{said_of}
 use Rattle.register.specs.Contents.{contents_of}
 use Rattle.register.proofs.Asking.{found_below, descent_told}

@@ -1,15 +1,11 @@
-use Rattle.std.proofs.Common.{◌≡◌, ◌<◌, length, Some, None, Ok, Err, sym, refl, ap, ◌∙◌, subst, arith, rules}
+use Rattle.std.proofs.Common.{ap}
 use Rattle.descent.specs.Links.{link}
-use Rattle.hierarchy.specs.declared.entering.Entry.{Entry as LinkEntry}
-use Rattle.hierarchy.specs.declared.entering.Entry.TheVariants.{New as NewLink, Known as KnownLink}
-use Rattle.names.specs.Held.{names_in, pool_size, table_size}
-use Rattle.hierarchy.specs.Books.{Book, book_of}
-use Rattle.register.specs.declared.register.Register.{Register}
-use Rattle.register.specs.Entries.{number_for, with_name, with_base}
-use Rattle.register.specs.Contents.{Contents, contents_of}
-use Rattle.register.specs.Growing.{Enters, NameEnters}
+use Rattle.hierarchy.specs.Books.{book_of}
+use Rattle.register.specs.Entries.{number_for, with_base}
+use Rattle.register.specs.Contents.{contents_of}
+use Rattle.register.specs.Growing.{Enters}
 use Rattle.register.specs.Places.{first, no_link_place, no_base}
-use Rattle.register.proofs.Parts.{contents_from, Linking, linking, base_entered, base_unplaced}
+use Rattle.register.proofs.Parts.{linking, base_entered, base_unplaced}
 use Rattle.register.proofs.Growth.{grown_name, grown_is, grown_refl, left_by}
 use Rattle.register.proofs.register.Register.enter_base.Goals as goal
 

@@ -1,13 +1,12 @@
-use Rattle.std.proofs.Common.{◌≡◌, ◌+◌, [], map, length, get_or, drop, Ok, Err, sym, refl, ap, ◌∙◌, subst, arith, rules}
-use Rattle.std.proofs.lemmas.List.{drop_more, drop_all}
+use Rattle.std.proofs.Common.{[], map, refl, ap, arith}
+use Rattle.std.proofs.lemmas.List.{drop_all}
 use Rattle.grammar.specs.Declarations.{name_of}
-use Rattle.texts.specs.Refusals.{place}
-use Rattle.register.specs.Entries.{with_base, with_bases}
-use Rattle.register.specs.Places.{no_base, no_bases}
-use Rattle.register.specs.Contents.{contents_of, changed}
+use Rattle.register.specs.Entries.{with_bases}
+use Rattle.register.specs.Places.{no_bases}
+use Rattle.register.specs.Contents.{contents_of}
 use Rattle.register.specs.Growing.{Enters}
-use Rattle.register.proofs.Growth.{grown-base, grown_refl, left_by}
-use Rattle.register.proofs.Going.{Going, going_on, going_off, going_done, bases_lack, bases_enter, bases_on, bases_off, still_unsettled, more_entered}
+use Rattle.register.proofs.Growth.{grown_refl, left_by}
+use Rattle.register.proofs.Going.{going_done, bases_lack, bases_enter, bases_on, bases_off, still_unsettled, more_entered}
 use Rattle.register.proofs.register.Register.enter_bases.Goals as goal
 
 pub loop-base-init : goal.loop-base-init

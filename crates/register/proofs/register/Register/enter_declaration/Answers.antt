@@ -1,9 +1,9 @@
-use Rattle.std.proofs.Common.{◌≡◌, ◌∷◌, map, length, Ok, Err, vec_items, sym, refl, ap, ◌∙◌, subst, arith, rules}
+use Rattle.std.proofs.Common.{map, vec_items, subst}
 use Rattle.grammar.specs.Declarations.{name_of, names_of}
 use Rattle.texts.specs.Refusals.{place}
-use Rattle.register.specs.Entries.{number_for, with_bases, with_names}
+use Rattle.register.specs.Entries.{with_bases, with_names}
 use Rattle.register.specs.Places.{no_bases, no_names}
-use Rattle.register.specs.Contents.{Contents, contents_of}
+use Rattle.register.specs.Contents.{contents_of}
 use Rattle.register.specs.Growing.{Enters}
 use Rattle.register.proofs.Growth.{left_by}
 use Rattle.register.proofs.Going.{name_off, names_then, name_first}

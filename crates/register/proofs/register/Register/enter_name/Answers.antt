@@ -1,8 +1,8 @@
-use Rattle.std.proofs.Common.{◌≡◌, [], ◌∷◌, ◌++◌, length, Ok, Err, sym, refl, ap, ◌∙◌, arith, length-append, rules}
+use Rattle.std.proofs.Common.{[], ◌∷◌, length, Ok, sym, ap, ◌∙◌, arith, length-append}
 use Rattle.names.specs.Entering.{names_after}
 use Rattle.names.specs.Held.{names_in, pool_size, table_size}
 use Rattle.hierarchy.specs.Books.{Book, book_of}
-use Rattle.register.proofs.Parts.{contents_from, same_from, new_number, type_place, typed_book, name_known, name_new}
+use Rattle.register.proofs.Parts.{new_number, type_place, typed_book}
 use Rattle.register.proofs.register.Register.enter_name.Goals as goal
 
 pub invariant_of-self-in-New : goal.invariant_of-self-in-New
@@ -18,4 +18,7 @@ invariant_of-self-in-New c =
     let a = typed_book book (book_of c.enter_type.new.self) c.enter_type.result c.enter_type.ensures.answer c.enter_type.ensures.after t in
     let h = c.in-Ok.ensures.after in
     let r = h.read ∙ ap (λ e. names_after names bytes (Ok e)) c.in-New.is in
-    (omega (arith, ap (λ (b : Book). b.held.types) a, self.named, ap length r, length-append names (bytes ∷ [])), (ap (λ (b : Book). b.held.room) a ∙ self.room ∙ sym h.table_size_is, tt))
+    record {
+      named = omega (arith, ap (λ (b : Book). b.held.types) a, self.named, ap length r, length-append names (bytes ∷ []));
+      room = ap (λ (b : Book). b.held.room) a ∙ self.room ∙ sym h.table_size_is;
+    }

@@ -1,4 +1,4 @@
-use Rattle.std.proofs.Common.{◌≡◌, ◌+◌, length, Ok, Err, sym, refl, ap, ◌∙◌, arith, rules}
+use Rattle.std.proofs.Common.{◌≡◌, length, ap, ◌∙◌, arith}
 use Rattle.std.specs.Option.{option_map}
 use Rattle.texts.specs.Texts.{lines_of}
 use Rattle.texts.specs.Lines.{lines_left}
@@ -6,7 +6,7 @@ use Rattle.texts.proofs.Lines.{lines_count}
 use Rattle.register.specs.Contents.{contents_of}
 use Rattle.register.specs.Growing.{EntersUnless}
 use Rattle.register.proofs.Growth.{grown_refl, left_by}
-use Rattle.register.proofs.Going.{Going, lines_lack, lines_enter, lines_on, lines_off, going_done, still_unsettled}
+use Rattle.register.proofs.Going.{lines_lack, lines_enter, lines_on, lines_off, going_done, still_unsettled}
 use Rattle.register.proofs.register.Register.enter_text.Goals as goal
 
 pub loop-line-init : goal.loop-line-init

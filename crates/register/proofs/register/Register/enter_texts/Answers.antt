@@ -1,10 +1,8 @@
-use Rattle.std.proofs.Common.{Ok, Err}
 use Rattle.texts.specs.Texts.{lines_of}
 use Rattle.texts.specs.declared.refusal.Source.TheVariants.{Shipped}
 use Rattle.register.specs.Contents.{contents_of}
-use Rattle.register.specs.Growing.{EntersUnless}
 use Rattle.register.specs.Places.{no_lines}
-use Rattle.register.proofs.Going.{texts-off, texts-then}
+use Rattle.register.proofs.Going.{texts-then}
 use Rattle.register.proofs.register.Register.enter_texts.Goals as goal
 
 pub returns : goal.returns

@@ -1,14 +1,13 @@
-use Rattle.std.proofs.Common.{◌≡◌, length, Ok, Err, Result, sym, refl, ap, ◌∙◌, subst}
+use Rattle.std.proofs.Common.{◌≡◌, sym, ap, ◌∙◌}
 use Rattle.std.specs.Result.{result_ok}
 use Rattle.std.proofs.lemmas.List.{length-take-le}
 use Rattle.names.specs.Held.{names_in, pool_size, table_size}
 use Rattle.hierarchy.specs.Books.{book_of}
-use Rattle.register.specs.Contents.{Contents, contents_of, changed}
+use Rattle.register.specs.Contents.{contents_of, changed}
 use Rattle.register.specs.Entries.{with_texts}
-use Rattle.register.specs.Growing.{EntersUnless}
 use Rattle.register.specs.Places.{no_texts}
 use Rattle.register.proofs.Parts.{contents_from}
-use Rattle.register.proofs.Backing.{Undoes, undoes, load_refused, load_entered, grown_if_err, links_few, chains_are, entered_from}
+use Rattle.register.proofs.Backing.{undoes, load_refused, grown_if_err, links_few, chains_are, entered_from}
 use Rattle.register.proofs.register.Register.load.Goals as goal
 
 pub undo-requires : goal.undo-requires

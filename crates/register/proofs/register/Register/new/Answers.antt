@@ -1,11 +1,11 @@
-use Rattle.std.proofs.Common.{◌≡◌, [], length, replicate, vec_len, sym, refl, ap, ◌∙◌, subst}
+use Rattle.std.proofs.Common.{[], vec_len, ap, ◌∙◌}
 use Rattle.std.proofs.lemmas.List.{length-replicate}
 use Rattle.descent.specs.Links.{no_link}
 use Rattle.hierarchy.specs.Books.{book_of, new_book}
 use Rattle.register.specs.Entries.{entries}
 use Rattle.register.specs.Places.{room}
-use Rattle.register.specs.Contents.{Contents, contents, contents_of, new_contents}
-use Rattle.register.proofs.Parts.{contents_from, same_from}
+use Rattle.register.specs.Contents.{contents}
+use Rattle.register.proofs.Parts.{same_from}
 use Rattle.register.proofs.register.Register.new.Goals as goal
 
 pub returns : goal.returns

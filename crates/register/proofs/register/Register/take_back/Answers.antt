@@ -1,9 +1,9 @@
-use Rattle.std.proofs.Common.{◌≡◌, length, Ok, Err, Result, sym, refl, ap, ◌∙◌, subst, arith}
+use Rattle.std.proofs.Common.{Err, sym, refl, ap, ◌∙◌}
 use Rattle.std.proofs.lemmas.Result.{err_from_is_err_and}
 use Rattle.names.specs.Held.{names_in, pool_size, table_size}
-use Rattle.hierarchy.specs.Books.{Book, book_of}
+use Rattle.hierarchy.specs.Books.{book_of}
 use Rattle.register.specs.Contents.{contents_of, after_back}
-use Rattle.register.proofs.Parts.{contents_from, same_from}
+use Rattle.register.proofs.Parts.{same_from}
 use Rattle.register.proofs.Backing.{back_answer_lem, back_within, back_after, links_few}
 use Rattle.register.proofs.register.Register.take_back.Goals as goal
 

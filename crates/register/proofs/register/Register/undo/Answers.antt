@@ -1,4 +1,4 @@
-use Rattle.std.proofs.Common.{◌≡◌, ℕ, Ok, Err, Result, sym, refl, ap, ◌∙◌, subst, arith}
+use Rattle.std.proofs.Common.{◌≡◌, ℕ, ◌∙◌, arith}
 use Rattle.register.specs.Contents.{contents_of}
 use Rattle.register.proofs.Backing.{back_accepted}
 use Rattle.register.proofs.register.Register.undo.Goals as goal
