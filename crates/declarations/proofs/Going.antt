@@ -9,7 +9,7 @@ use Rattle.declarations.specs.declared.ticket.Mark.{Mark}
 use Rattle.declarations.specs.declared.ticket.Ticket.{Ticket}
 use Rattle.declarations.specs.declared.ticket.NotOpen.{NotOpen}
 use Rattle.declarations.specs.declared.ticket.Unopened.{Unopened}
-use Rattle.declarations.specs.Marks.{marked_types, marked_links, aside_of}
+use Rattle.declarations.specs.Marks.{types_marked, links_marked, aside_of}
 use Rattle.declarations.specs.Trials.{most_trials, open_answer, spend_answer}
 use Rattle.declarations.specs.Books.{State, state, mark_now, after_open, after_withdraw, back_to}
 use Rattle.declarations.specs.Histories.{Event, opens, keeps, withdraws, History, Moment, moment, step, moment_after, Setup, Right, AllRight}
@@ -63,12 +63,12 @@ trial_opened s types links number closed few t l n =
     }
 
 -- what the register is taken back to is there
-pub back_to_mark : (mark : Option Mark) (m : Mark) (c : Contents) → mark ≡ Some m → marked_types mark ≤ length c.entries.names → marked_links mark ≤ length c.entries.links → Within (take (marked_links mark) c.entries.links) (marked_types mark)
+pub back_to_mark : (mark : Option Mark) (m : Mark) (c : Contents) → mark ≡ Some m → types_marked mark ≤ length c.entries.names → links_marked mark ≤ length c.entries.links → Within (take (links_marked mark) c.entries.links) (types_marked mark)
     → back_answer c m.types m.links ≡ Ok tt
 back_to_mark mark m c e t l w =
-    let T : Option Mark → Type 0 = λ o. marked_types o ≤ length c.entries.names in
-    let L : Option Mark → Type 0 = λ o. marked_links o ≤ length c.entries.links in
-    let W : Option Mark → Type 0 = λ o. Within (take (marked_links o) c.entries.links) (marked_types o) in
+    let T : Option Mark → Type 0 = λ o. types_marked o ≤ length c.entries.names in
+    let L : Option Mark → Type 0 = λ o. links_marked o ≤ length c.entries.links in
+    let W : Option Mark → Type 0 = λ o. Within (take (links_marked o) c.entries.links) (types_marked o) in
     back_accepted c m.types m.links (subst T e t) (subst L e l) (subst W e w)
 
 -- a mark of all that is entered

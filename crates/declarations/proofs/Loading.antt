@@ -11,7 +11,7 @@ use Rattle.register.specs.Contents.{Contents, contents, changed, first_of, Loads
 use Rattle.register.specs.Growing.{Grown}
 use Rattle.register.proofs.Going.{grown_lines, grown_self}
 use Rattle.declarations.specs.declared.ticket.Mark.{Mark}
-use Rattle.declarations.specs.Marks.{marked_types, marked_links, aside_of}
+use Rattle.declarations.specs.Marks.{types_marked, links_marked, aside_of}
 use Rattle.declarations.specs.Books.{State, state, with_contents}
 use Rattle.declarations.specs.Histories.{loads, moment}
 use Rattle.declarations.specs.Telling.{setup_of, kept_in, moment_of, Goes, LoadGoes}
@@ -22,27 +22,27 @@ grown-texts c shipped own = grown_lines c (with_lines c.entries (lines_of shippe
 
 -- what the open trial has laid aside is still there once more came in
 pub record Stays (mark : Option Mark) (e after : Entries) : Type 0 where
-  pub types : marked_types mark ≤ length after.names
-  pub links : marked_links mark ≤ length after.links
-  pub within : Within (take (marked_links mark) after.links) (marked_types mark)
+  pub types : types_marked mark ≤ length after.names
+  pub links : links_marked mark ≤ length after.links
+  pub within : Within (take (links_marked mark) after.links) (types_marked mark)
   pub aside : aside_of mark after ≡ aside_of mark e
 
-aside_same : (mark : Option Mark) (e after : Entries) → take (marked_types mark) after.names ≡ take (marked_types mark) e.names → take (marked_links mark) after.links ≡ take (marked_links mark) e.links → aside_of mark after ≡ aside_of mark e
+aside_same : (mark : Option Mark) (e after : Entries) → take (types_marked mark) after.names ≡ take (types_marked mark) e.names → take (links_marked mark) after.links ≡ take (links_marked mark) e.links → aside_of mark after ≡ aside_of mark e
 aside_same None e after n l = refl
 aside_same (Some m) e after n l = ap (λ x. Some (entries x (take m.links after.links))) n ∙ ap (λ x. Some (entries (take m.types e.names) x)) l
 
-pub stays_grown : (mark : Option Mark) {a b : Contents} → Grown a b → marked_types mark ≤ length a.entries.names → marked_links mark ≤ length a.entries.links → Within (take (marked_links mark) a.entries.links) (marked_types mark) → Stays mark a.entries b.entries
+pub stays_grown : (mark : Option Mark) {a b : Contents} → Grown a b → types_marked mark ≤ length a.entries.names → links_marked mark ≤ length a.entries.links → Within (take (links_marked mark) a.entries.links) (types_marked mark) → Stays mark a.entries b.entries
 stays_grown mark {a} {b} g t l w =
-    let n : take (marked_types mark) b.entries.names ≡ take (marked_types mark) a.entries.names = ap (take (marked_types mark)) g.names ∙ take-append-le (marked_types mark) a.entries.names g.more_names t in
-    let m : take (marked_links mark) b.entries.links ≡ take (marked_links mark) a.entries.links = ap (take (marked_links mark)) g.links ∙ take-append-le (marked_links mark) a.entries.links g.more_links l in
+    let n : take (types_marked mark) b.entries.names ≡ take (types_marked mark) a.entries.names = ap (take (types_marked mark)) g.names ∙ take-append-le (types_marked mark) a.entries.names g.more_names t in
+    let m : take (links_marked mark) b.entries.links ≡ take (links_marked mark) a.entries.links = ap (take (links_marked mark)) g.links ∙ take-append-le (links_marked mark) a.entries.links g.more_links l in
     record {
       types = omega (arith, ap length g.names, length-append a.entries.names g.more_names, t);
       links = omega (arith, ap length g.links, length-append a.entries.links g.more_links, l);
-      within = subst (λ ls. Within ls (marked_types mark)) (sym m) w;
+      within = subst (λ ls. Within ls (types_marked mark)) (sym m) w;
       aside = aside_same mark a.entries b.entries n m;
     }
 
-module _ (mark : Option Mark) (c after : Contents) (shipped own : List ℕ) (t : marked_types mark ≤ length c.entries.names) (l : marked_links mark ≤ length c.entries.links) (w : Within (take (marked_links mark) c.entries.links) (marked_types mark)) where
+module _ (mark : Option Mark) (c after : Contents) (shipped own : List ℕ) (t : types_marked mark ≤ length c.entries.names) (l : links_marked mark ≤ length c.entries.links) (w : Within (take (links_marked mark) c.entries.links) (types_marked mark)) where
   same_stays : after ≡ c → Stays mark c.entries after.entries
   same_stays e = subst (λ (x : Contents). Stays mark c.entries x.entries) (sym e) (record { types = t; links = l; within = w; aside = refl })
 

@@ -5,13 +5,13 @@ use Rattle.register.specs.Contents.{first_of}
 use Rattle.declarations.specs.declared.ticket.Mark.{Mark}
 
 -- how many types and links were entered when the open trial began; none where no trial is open
-abbrev pub marked_types : Option Mark → ℕ
-marked_types None = 0
-marked_types (Some m) = m.types
+abbrev pub types_marked : Option Mark → ℕ
+types_marked None = 0
+types_marked (Some m) = m.types
 
-abbrev pub marked_links : Option Mark → ℕ
-marked_links None = 0
-marked_links (Some m) = m.links
+abbrev pub links_marked : Option Mark → ℕ
+links_marked None = 0
+links_marked (Some m) = m.links
 
 -- what was laid aside by the trial that is open
 abbrev pub aside_of : Option Mark → Entries → Option Entries

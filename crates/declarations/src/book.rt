@@ -2,7 +2,7 @@
 ghost use Rattle.std.specs.Prelude.{◌≤◌, length, take};
 ghost use Rattle.descent.specs.Links.{Within};
 ghost use Rattle.register.specs.Contents.{contents_of};
-ghost use Rattle.declarations.specs.Marks.{marked_types, marked_links};
+ghost use Rattle.declarations.specs.Marks.{types_marked, links_marked};
 
 use crate::ticket::Mark;
 use register::register::Register;
@@ -14,7 +14,7 @@ pub struct Book {
     pub(crate) opened: u32,
     pub(crate) mark: Option<Mark>,
     pub(crate) asks: u32,
-    ghost marked_types: { marked_types mark ≤ length (contents_of register).entries.names },
-    ghost marked_links: { marked_links mark ≤ length (contents_of register).entries.links },
-    ghost marked_within: { Within (take (marked_links mark) (contents_of register).entries.links) (marked_types mark) },
+    ghost marked_types: { types_marked mark ≤ length (contents_of register).entries.names },
+    ghost marked_links: { links_marked mark ≤ length (contents_of register).entries.links },
+    ghost marked_within: { Within (take (links_marked mark) (contents_of register).entries.links) (types_marked mark) },
 }

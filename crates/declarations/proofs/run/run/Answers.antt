@@ -9,7 +9,7 @@ use Rattle.declarations.proofs.run.run.Goals as goal
 pub loop-call-init : goal.loop-call-init
 loop-call-init g c =
     let A : List Answer → Type 0 = λ given. Recorded g.D.Decomposer.gives [] given [] in
-    (refl, record { history = []; recorded = subst A (sym c.new-answers.ensures.items) none_yet; tells = c.new_book.ensures.told })
+    (refl, record { history = []; recorded = subst A (sym c.new-answers.ensures.items) none_yet; tells = c.new-book.ensures.told })
 
 pub returns-in_err-push : goal.returns-in_err-push
 returns-in_err-push g c = IfOk-from_err c.from_residual-in_err-push.result _ c.from_residual-in_err-push.ensures.0
@@ -26,4 +26,4 @@ pub returns : goal.returns
 returns g c =
     all_ran g.D.Decomposer.gives g.A.Answerer.count g.A.Answerer.relates (setup_for c.args.number c.args.sizes) c.args.calls.now c.loop-call.call-index (vec_items c.loop-call.answers) c.loop-call.book
     c.loop-call.invariant.1 c.loop-call-test.false
-    (c.loop-call.invariant.0 ∙ new_setup c.args.number c.args.sizes c.in_ok-tables.tables (state_of c.new_book.result) c.in_ok-tables.ensures c.new_book.ensures.after)
+    (c.loop-call.invariant.0 ∙ new_setup c.args.number c.args.sizes c.in_ok-tables.tables (state_of c.new-book.result) c.in_ok-tables.ensures c.new-book.ensures.after)

@@ -8,7 +8,7 @@ pub invariant_of-self : goal.invariant_of-self
 invariant_of-self c =
     let self = c.args.self.now in
     let s = load_stays self.mark (contents_of self.register) (contents_of c.load.new.self) c.args.shipped.now c.args.own.now self.marked_types self.marked_links self.marked_within c.load.result c.load.ensures in
-    (s.types, (s.links, (s.within, tt)))
+    record { marked_types = s.types; marked_links = s.links; marked_within = s.within }
 
 pub returns : goal.returns
 returns c =

@@ -14,7 +14,7 @@ invariant_of-self c =
     let r = c.args.self.now.register in
     let t : c.count.result ≡ length (contents_of r).entries.names = c.count.ensures ∙ ap (λ n. length (names_in n)) c.names.ensures in
     let l : c.link_count.result ≡ length (contents_of r).entries.links = c.link_count.ensures ∙ ap (λ (h : Hierarchy). h.entered.count) c.numbered.ensures ∙ sym (length-take-le (book_of r.numbered).held.count (book_of r.numbered).held.table (links_few r)) in
-    (omega (arith, t), (omega (arith, l), (mark_within (contents_of r) c.count.result c.link_count.result (links_within r) t l, tt)))
+    record { marked_types = omega (arith, t); marked_links = omega (arith, l); marked_within = mark_within (contents_of r) c.count.result c.link_count.result (links_within r) t l }
 
 pub returns : goal.returns
 returns c =
