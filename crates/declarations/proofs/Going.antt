@@ -1,19 +1,17 @@
 -- One event more of a history.
-use Rattle.std.proofs.Common.{◌≡◌, ℕ, ◌+◌, ◌<◌, ◌≤◌, Bool, true, false, cond, ◌&&◌, eqb, ltb, List, [], ◌∷◌, ◌++◌, length, take, is_some, Some, None, Ok, Err, Option, Result, sym, refl, ap, ◌∙◌, subst, arith, take_all}
-use Rattle.std.proofs.lemmas.Bool.{cond-true, cond-false, lt-ltb, true≢false}
+use Rattle.std.proofs.Common.{◌≡◌, ℕ, ◌+◌, ◌<◌, ◌≤◌, false, ◌∷◌, length, take, is_some, Some, None, Ok, Option, sym, refl, ap, ◌∙◌, subst, arith, take_all}
+use Rattle.std.proofs.lemmas.Bool.{cond-true, lt-ltb, true≢false}
 use Rattle.descent.specs.Links.{Within}
 use Rattle.register.specs.Entries.{Entries, entries}
-use Rattle.register.specs.Contents.{Contents, changed, first_of, back_answer}
+use Rattle.register.specs.Contents.{Contents, first_of, back_answer}
 use Rattle.register.proofs.Backing.{back_accepted}
 use Rattle.declarations.specs.declared.ticket.Mark.{Mark}
 use Rattle.declarations.specs.declared.ticket.Ticket.{Ticket}
-use Rattle.declarations.specs.declared.ticket.NotOpen.{NotOpen}
-use Rattle.declarations.specs.declared.ticket.Unopened.{Unopened}
 use Rattle.declarations.specs.Marks.{types_marked, links_marked, aside_of}
 use Rattle.declarations.specs.Trials.{most_trials, open_answer, spend_answer}
-use Rattle.declarations.specs.Books.{State, state, mark_now, after_open, after_withdraw, back_to}
-use Rattle.declarations.specs.Histories.{Event, opens, keeps, withdraws, History, Moment, moment, step, moment_after, Setup, Right, AllRight}
-use Rattle.declarations.specs.Telling.{setup_of, kept_in, moment_of, TellsState, Goes}
+use Rattle.declarations.specs.Books.{State, state, after_open}
+use Rattle.declarations.specs.Histories.{Event, opens, Moment, moment, step, Setup, Right, AllRight}
+use Rattle.declarations.specs.Telling.{setup_of, kept_in, moment_of, Goes}
 
 pub goes_by : (s after : State) (e : Event) → setup_of after ≡ setup_of s → moment_of after ≡ step e (moment_of s) → Right (setup_of s) (moment_of s) e → Goes s e after
 goes_by s after e same moves right = λ h t.

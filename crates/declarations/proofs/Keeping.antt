@@ -1,26 +1,22 @@
 -- That right answers keep the law.
-use Rattle.std.proofs.Common.{◌≡◌, ℕ, ◌*◌, ◌≤◌, Bool, true, false, List, [], ◌∷◌, ◌++◌, length, take, Some, None, Ok, Err, Decides, Option, Result, sym, refl, ap, ◌∙◌, subst, arith}
+use Rattle.std.proofs.Common.{◌≡◌, ℕ, ◌*◌, ◌≤◌, Bool, List, [], ◌∷◌, ◌++◌, Some, None, Ok, Err, Decides, Option, Result, sym, refl, ap, ◌∙◌, subst, arith}
 use Rattle.descent.specs.declared.link.Link.{Link}
-use Rattle.descent.specs.Answers.{Agree}
 use Rattle.descent.specs.Computed.{descends}
-use Rattle.descent.specs.Links.{Linked, Descends}
+use Rattle.descent.specs.Links.{Descends}
 use Rattle.descent.specs.Loops.{LoopFree}
-use Rattle.descent.specs.Trims.{Trimmed}
 use Rattle.descent.proofs.Closures.{decides_descends}
-use Rattle.chains.specs.Places.{Places}
-use Rattle.rows.specs.KeptEntries.{kept_of, kept_count, kept_links, marked}
+use Rattle.rows.specs.KeptEntries.{kept_of, kept_count}
 use Rattle.rows.proofs.Reductions.{reduction}
 use Rattle.rows.proofs.Trimming.{trim_keeps}
 use Rattle.settling.specs.declared.outcome.Settled.{Settled}
-use Rattle.settling.specs.declared.outcome.Unsettled.{Unsettled}
 use Rattle.settling.specs.declared.outcome.Unsettled.TheVariants.{ShortTable, Loop as LoopFound, ShortIndex}
 use Rattle.names.specs.Finding.{number_in}
 use Rattle.register.specs.declared.refusal.NotAsked.{NotAsked}
-use Rattle.register.specs.Asking.{numbers_answer, numbers_found, said_of}
+use Rattle.register.specs.Asking.{numbers_answer, said_of}
 use Rattle.register.specs.Entries.{Entries}
 use Rattle.register.proofs.Asking.{found_by}
-use Rattle.declarations.specs.Histories.{Event, loads, opens, keeps, withdraws, settles, asks, History, Kept, Moment, step, moment_after, Setup, SettlesRight, Right, AllRight}
-use Rattle.declarations.specs.Law.{links_after, DescendsByName, EachCallIsAnsweredAsItsQuestionsSay, LeastWithTheDescent, TrimmingGivesWhatWasKept, Law}
+use Rattle.declarations.specs.Histories.{Event, loads, opens, keeps, withdraws, settles, asks, History, Kept, Moment, step, moment_after, Setup, Right, AllRight}
+use Rattle.declarations.specs.Law.{links_after, DescendsByName, LeastWithTheDescent, Law}
 
 -- the right answer at each place
 right_at : (k : Setup) (h later before : History) (e : Event) → AllRight k h → h ≡ later ++ (e ∷ before) → Right k (moment_after before) e

@@ -1,20 +1,19 @@
 -- A load, as an event of a history.
-use Rattle.std.proofs.Common.{◌≡◌, ℕ, ◌≤◌, List, [], ◌∷◌, ◌++◌, length, take, Some, None, Ok, Err, Option, Result, sym, refl, ap, ◌∙◌, subst, arith, length-append}
+use Rattle.std.proofs.Common.{◌≡◌, ℕ, ◌≤◌, List, length, take, Some, None, Ok, Err, Option, Result, sym, refl, ap, ◌∙◌, subst, arith, length-append}
 use Rattle.std.proofs.lemmas.List.{take-append-le}
-use Rattle.descent.specs.declared.link.Link.{Link}
 use Rattle.descent.specs.Links.{Within}
 use Rattle.texts.specs.Texts.{lines_of}
 use Rattle.register.specs.declared.refusal.Unloaded.{Unloaded}
 use Rattle.register.specs.declared.refusal.Unloaded.TheVariants.{Refused, NoMemory}
 use Rattle.register.specs.Entries.{Entries, entries, with_lines, with_texts}
-use Rattle.register.specs.Contents.{Contents, contents, changed, first_of, LoadsAs}
+use Rattle.register.specs.Contents.{Contents, changed, LoadsAs}
 use Rattle.register.specs.Growing.{Grown}
 use Rattle.register.proofs.Going.{grown_lines, grown_self}
 use Rattle.declarations.specs.declared.ticket.Mark.{Mark}
 use Rattle.declarations.specs.Marks.{types_marked, links_marked, aside_of}
-use Rattle.declarations.specs.Books.{State, state, with_contents}
+use Rattle.declarations.specs.Books.{State, with_contents}
 use Rattle.declarations.specs.Histories.{loads, moment}
-use Rattle.declarations.specs.Telling.{setup_of, kept_in, moment_of, Goes, LoadGoes}
+use Rattle.declarations.specs.Telling.{setup_of, kept_in, moment_of, LoadGoes}
 use Rattle.declarations.proofs.Going.{goes_by}
 
 pub grown-texts : (c : Contents) (shipped own : List ℕ) → Grown c (changed c (with_texts c.entries shipped own))

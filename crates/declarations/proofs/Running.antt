@@ -1,7 +1,6 @@
 -- A settle as a call of a list.
-use Rattle.std.proofs.Common.{◌≡◌, ℕ, ◌+◌, ◌<◌, ◌≤◌, List, [], ◌∷◌, ◌++◌, length, get_or, take, replicate, None, Ok, Err, vec_len, Result, sym, refl, ap, ◌∙◌, subst, take_all}
+use Rattle.std.proofs.Common.{◌≡◌, ℕ, ◌+◌, ◌<◌, ◌≤◌, List, [], ◌∷◌, ◌++◌, length, get_or, take, None, Ok, Err, vec_len, Result, sym, refl, ap, ◌∙◌, subst, take_all}
 use Rattle.std.proofs.lemmas.List.{take_more, length-replicate}
-use Rattle.chains.specs.Places.{Places}
 use Rattle.settling.specs.declared.outcome.Settled.{Settled}
 use Rattle.settling.specs.declared.outcome.Unsettled.{Unsettled}
 use Rattle.settling.specs.Settling.{Giving}

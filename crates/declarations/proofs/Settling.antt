@@ -1,10 +1,10 @@
 -- A settle, as an event of a history.
-use Rattle.std.proofs.Common.{◌≡◌, ℕ, ◌+◌, ◌*◌, ◌<◌, ◌≤◌, Bool, true, false, ◌||◌, ltb, List, [], ◌∷◌, ◌++◌, map, length, take, drop, Some, None, Ok, Err, Option, Result, sym, refl, ap, ◌∙◌, subst, arith}
+use Rattle.std.proofs.Common.{◌≡◌, ℕ, ◌*◌, ◌≤◌, Bool, true, false, ◌||◌, ltb, List, [], ◌++◌, length, take, Some, Ok, Err, Result, sym, refl, ap, ◌∙◌, subst, arith}
 use Rattle.std.proofs.lemmas.List.{take_at, length-take-le, length-map}
 use Rattle.std.proofs.lemmas.Bool.{ltb-false, true≢false}
 use Rattle.descent.specs.declared.link.Link.{Link}
 use Rattle.descent.specs.Links.{Within}
-use Rattle.descent.specs.Loops.{Loop, LoopFree}
+use Rattle.descent.specs.Loops.{LoopFree}
 use Rattle.descent.specs.Trims.{ones}
 use Rattle.order.specs.Order.{order_of}
 use Rattle.order.specs.Ranks.{ranks_of}
@@ -22,12 +22,12 @@ use Rattle.hierarchy.specs.Books.{Written}
 use Rattle.hierarchy.specs.SettledBooks.{settled_by, sizes_of, tables_of}
 use Rattle.hierarchy.proofs.SettledTables.{order_ranked}
 use Rattle.register.specs.Entries.{Entries}
-use Rattle.register.specs.Contents.{Contents, contents}
+use Rattle.register.specs.Contents.{Contents}
 use Rattle.register.specs.Settling.{Settles}
 use Rattle.declarations.specs.Marks.{aside_of}
-use Rattle.declarations.specs.Books.{State, state, with_contents}
-use Rattle.declarations.specs.Histories.{settles, Kept, Moment, moment, step, SettlesRight, SettleRight}
-use Rattle.declarations.specs.Telling.{setup_of, kept_by, kept_in, moment_of, places_in, entries_in, GivenBy, Goes, SettleGoes}
+use Rattle.declarations.specs.Books.{State, with_contents}
+use Rattle.declarations.specs.Histories.{settles, moment, step, SettlesRight, SettleRight}
+use Rattle.declarations.specs.Telling.{setup_of, kept_by, moment_of, places_in, entries_in, GivenBy, Goes, SettleGoes}
 use Rattle.declarations.proofs.Going.{goes_by}
 
 -- what every book's entries keep

@@ -1,5 +1,5 @@
 -- What a book is made with stays.
-use Rattle.std.proofs.Common.{◌≡◌, ℕ, Bool, List, Some, None, Ok, Err, Option, Result, sym, refl, ap, ◌∙◌}
+use Rattle.std.proofs.Common.{◌≡◌, ℕ, Bool, List, Some, None, Ok, Err, Option, Result, refl, ap, ◌∙◌}
 use Rattle.settling.specs.declared.outcome.Settled.{Settled}
 use Rattle.settling.specs.declared.outcome.Unsettled.{Unsettled}
 use Rattle.settling.specs.Settling.{Giving}
@@ -13,7 +13,6 @@ use Rattle.declarations.specs.declared.ticket.Ticket.{Ticket}
 use Rattle.declarations.specs.declared.ticket.NotOpen.{NotOpen}
 use Rattle.declarations.specs.declared.ticket.Unopened.{Unopened}
 use Rattle.declarations.specs.Books.{State, with_contents, BookLoads, BookSettles, after_open, after_keep, after_withdraw, back_to, after_ask}
-use Rattle.declarations.specs.Histories.{Setup}
 use Rattle.declarations.specs.Telling.{setup_of}
 
 pub load_setup : (s after : State) (shipped own : List ℕ) (r : Result (Unit {0}) Unloaded) → BookLoads s shipped own r after → setup_of after ≡ setup_of s

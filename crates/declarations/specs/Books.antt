@@ -6,7 +6,7 @@ use Rattle.settling.specs.Settling.{Giving}
 use Rattle.register.specs.declared.refusal.NotAsked.{NotAsked}
 use Rattle.register.specs.declared.refusal.Unloaded.{Unloaded}
 use Rattle.register.specs.Entries.{Entries}
-use Rattle.register.specs.Contents.{Contents, contents_of, new_contents, changed, first_of, LoadsAs}
+use Rattle.register.specs.Contents.{Contents, contents_of, changed, first_of, LoadsAs}
 use Rattle.register.specs.Settling.{Settles}
 use Rattle.declarations.specs.declared.book.Book.{Book}
 use Rattle.declarations.specs.declared.ticket.Mark.{Mark}

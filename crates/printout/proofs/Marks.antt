@@ -1,5 +1,5 @@
 -- The marked links of a settled register are its kept links.
-use Rattle.std.proofs.Common.{◌≡◌, ℕ, suc, true, false, cond, eqb, List, [], ◌∷◌, length, get_or, take, is_err, Some, None, Ok, Err, Option, Result, sym, refl, ap, ◌∙◌, subst}
+use Rattle.std.proofs.Common.{◌≡◌, ℕ, false, cond, eqb, List, [], ◌∷◌, length, get_or, take, is_err, Some, None, Option, Result, sym, refl, ap, ◌∙◌, subst}
 use mathlib.Core.Logic.{∥∥₁_elim}
 use native.Mathlib.Nat.{ℕ_set}
 use Rattle.std.proofs.lemmas.List.{same_lists}
@@ -11,7 +11,6 @@ use Rattle.hierarchy.specs.Indexes.{settled_answer}
 use Rattle.printing.specs.declared.refusal.ShortOutput.{ShortOutput as Short}
 use Rattle.printing.specs.Printed.{printed, print_answer, out_after}
 use Rattle.register.specs.Contents.{Contents, Answers}
-use Rattle.printout.specs.declared.refusal.Unprinted.{Unprinted}
 use Rattle.printout.specs.Printouts.{text_of, printed_or, answer_by, output_by}
 
 -- only the entries of the links count

@@ -1,5 +1,5 @@
 -- What printing a register answers, and what the output then holds.
-use Rattle.std.specs.Prelude.{ℕ, List, length, Some, None, Ok, Err, Option, Result}
+use Rattle.std.specs.Prelude.{ℕ, List, Some, None, Ok, Err, Option, Result}
 use Rattle.rows.specs.KeptEntries.{kept_links}
 use Rattle.printing.specs.declared.refusal.ShortOutput.{ShortOutput as Short}
 use Rattle.printing.specs.Printed.{printed, print_answer, out_after}

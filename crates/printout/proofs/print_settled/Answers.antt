@@ -1,4 +1,4 @@
-use Rattle.std.proofs.Common.{◌≡◌, ◌-◌, false, take, is_err, Ok, Err, sym, refl, ap, ◌∙◌, subst}
+use Rattle.std.proofs.Common.{◌≡◌, ◌-◌, false, take, is_err, Ok, Err, sym, ap, ◌∙◌}
 use Rattle.hierarchy.specs.declared.book.Hierarchy.{Hierarchy}
 use Rattle.hierarchy.specs.Books.{book_of}
 use Rattle.hierarchy.specs.Indexes.{settled_answer}
@@ -6,7 +6,7 @@ use Rattle.hierarchy.proofs.LinkTables.{front_of}
 use Rattle.names.specs.Held.{names_in}
 use Rattle.register.specs.Contents.{contents_of}
 use Rattle.register.proofs.Backing.{register_answers}
-use Rattle.printout.proofs.Marks.{Prints, prints}
+use Rattle.printout.proofs.Marks.{prints}
 use Rattle.printout.proofs.print_settled.Goals as goal
 
 pub returns-in-Ok : goal.returns-in-Ok

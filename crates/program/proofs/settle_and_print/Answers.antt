@@ -21,7 +21,7 @@ use Rattle.program.proofs.Printing.{kept-marked}
 use Rattle.program.proofs.settle_and_print.Goals as goal
 
 abbrev shown_contents : Contents → List ℕ
-shown_contents c = shown_text (printed c.entries.names (marked c.written.auto c.entries.links))
+shown_contents c = shown_text (printed c.entries.names (marked c.written.kept c.entries.links))
 
 -- a settled register is printed with the kept links of what was entered
 settled_shown : (before after : Contents) (loop scratch loop' scratch' : List ℕ) (s : Settled) → Settles (JoinedFrom ByChainOrder) before loop scratch (Ok s) after loop' scratch' → shown_contents after ≡ shown_entries before.entries

@@ -1,9 +1,9 @@
-use Rattle.std.proofs.Common.{◌≡◌, List, [], vec_items, sym, refl, ap, ◌∙◌, subst, arith, rules}
+use Rattle.std.proofs.Common.{List, [], vec_items, sym, refl, ◌∙◌, subst, arith}
 use Rattle.declarations.specs.declared.call.Answer.{Answer}
 use Rattle.std.proofs.lemmas.Result.{IfOk-from_err}
 use Rattle.declarations.specs.Books.{state_of}
 use Rattle.declarations.specs.Running.{Recorded, none_yet, setup_for}
-use Rattle.declarations.proofs.Running.{Under, under_more, all_ran, new_setup}
+use Rattle.declarations.proofs.Running.{under_more, all_ran, new_setup}
 use Rattle.declarations.proofs.run.run.Goals as goal
 
 pub loop-call-init : goal.loop-call-init

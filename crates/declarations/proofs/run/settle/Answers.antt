@@ -1,4 +1,4 @@
-use Rattle.std.proofs.Common.{◌≡◌, length, sym, refl, ap, ◌∙◌, subst}
+use Rattle.std.proofs.Common.{length, ◌∙◌}
 use Rattle.declarations.specs.Books.{state_of}
 use Rattle.declarations.proofs.Setups.{settle_setup}
 use Rattle.declarations.proofs.Running.{settle_moves}

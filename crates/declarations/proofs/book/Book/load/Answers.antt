@@ -1,7 +1,7 @@
-use Rattle.std.proofs.Common.{◌≡◌, refl}
+use Rattle.std.proofs.Common.{refl}
 use Rattle.register.specs.Contents.{contents_of}
 use Rattle.declarations.specs.Books.{state_of}
-use Rattle.declarations.proofs.Loading.{Stays, load_stays, load_goes}
+use Rattle.declarations.proofs.Loading.{load_stays, load_goes}
 use Rattle.declarations.proofs.book.Book.load.Goals as goal
 
 pub invariant_of-self : goal.invariant_of-self

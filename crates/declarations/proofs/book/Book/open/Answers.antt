@@ -1,4 +1,4 @@
-use Rattle.std.proofs.Common.{◌≡◌, length, sym, refl, ap, ◌∙◌, subst, arith}
+use Rattle.std.proofs.Common.{◌≡◌, length, sym, ap, ◌∙◌, arith}
 use Rattle.std.proofs.lemmas.List.{length-take-le}
 use Rattle.hierarchy.specs.declared.book.Hierarchy.{Hierarchy}
 use Rattle.hierarchy.specs.Books.{book_of}
@@ -6,7 +6,7 @@ use Rattle.names.specs.Held.{names_in}
 use Rattle.register.specs.Contents.{contents_of}
 use Rattle.register.proofs.Backing.{links_few, links_within}
 use Rattle.declarations.specs.Books.{state_of}
-use Rattle.declarations.proofs.Going.{Opened, trial_opened, not_some, mark_within}
+use Rattle.declarations.proofs.Going.{trial_opened, not_some, mark_within}
 use Rattle.declarations.proofs.book.Book.open.Goals as goal
 
 pub invariant_of-self : goal.invariant_of-self

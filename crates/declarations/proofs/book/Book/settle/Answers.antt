@@ -1,4 +1,4 @@
-use Rattle.std.proofs.Common.{◌≡◌, length, sym, refl, ap, ◌∙◌, subst, arith}
+use Rattle.std.proofs.Common.{refl, arith}
 use Rattle.hierarchy.proofs.LinkTables.{different_ends}
 use Rattle.register.specs.declared.register.Register.{Register}
 use Rattle.register.specs.Contents.{contents_of}

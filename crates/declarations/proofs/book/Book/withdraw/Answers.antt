@@ -1,5 +1,5 @@
-use Rattle.std.proofs.Common.{◌≡◌, ℕ, Ok, Err, Result, sym, refl, ap, ◌∙◌, subst, arith}
-use Rattle.register.specs.Contents.{Contents, contents_of, back_answer}
+use Rattle.std.proofs.Common.{◌≡◌, ℕ, ap, ◌∙◌, arith}
+use Rattle.register.specs.Contents.{contents_of, back_answer}
 use Rattle.declarations.specs.Books.{State}
 use Rattle.declarations.proofs.Going.{back_to_mark}
 use Rattle.declarations.proofs.book.Book.withdraw.Goals as goal
