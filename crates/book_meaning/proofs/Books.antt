@@ -1,5 +1,5 @@
 -- The names that a history enters are lawful, and so a book's text reads back.
-use Rattle.std.proofs.Common.{◌≡◌, ℕ, List, [], ◌∷◌, length, Some, None, Ok, Err, Option, sym, refl, ap, ◌∙◌, subst, arith}
+use Rattle.std.proofs.Common.{◌≡◌, [], ◌∷◌, length, Some, None, Ok, Err, Option, sym, refl, subst, arith}
 use Rattle.settling.specs.declared.outcome.Unsettled.TheVariants.{ShortTable, Loop as LoopFound, ShortIndex}
 use Rattle.std.proofs.lemmas.List.{length-take-le}
 use Rattle.rows.specs.KeptEntries.{kept_of, kept_links}
@@ -11,7 +11,6 @@ use Rattle.register.specs.Contents.{contents_of}
 use Rattle.register.specs.Entries.{Entries}
 use Rattle.register.proofs.Backing.{links_few, links_within}
 use Rattle.declarations.specs.declared.book.Book.{Book}
-use Rattle.declarations.specs.Books.{state_of}
 use Rattle.declarations.specs.Histories.{put_back, Event, loads, opens, keeps, withdraws, settles, asks, History, Moment, step, moment_after}
 use Rattle.declarations.specs.Telling.{Tells}
 use Rattle.printing_meaning.specs.LawfulNames.{LawfulNames}
@@ -19,7 +18,7 @@ use Rattle.printing_meaning.specs.RoundTrip.{Printable}
 use Rattle.printing_meaning.proofs.Entered.{texts_enter_lawful_names_lem}
 use Rattle.printing_meaning.proofs.Marking.{marked-printable}
 use Rattle.printing_meaning.proofs.ReadingBack.{printed_books_read_back}
-use Rattle.book_meaning.specs.ReadingBack.{BookReadsBack, EveryBookReadsBack}
+use Rattle.book_meaning.specs.ReadingBack.{EveryBookReadsBack}
 
 abbrev LawfulAside : Option Entries → Type 0
 LawfulAside (Some e) = LawfulNames e.names

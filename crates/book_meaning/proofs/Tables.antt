@@ -1,12 +1,12 @@
 -- The tables hold what is entered, and 0 in the rest.
-use Rattle.std.proofs.Common.{◌≡◌, ℕ, ◌+◌, ◌-◌, ◌<◌, ◌≤◌, List, ◌++◌, length, get_or, take, drop, replicate, sym, refl, ap, ◌∙◌, arith, length-drop}
+use Rattle.std.proofs.Common.{◌≡◌, ℕ, ◌+◌, ◌-◌, ◌<◌, ◌≤◌, List, ◌++◌, length, take, drop, replicate, sym, ap, ◌∙◌, arith, length-drop}
 use Rattle.std.proofs.lemmas.List.{same_lists, take-append-drop, length-replicate, length-take-le, get_or-drop, get_or_default, get_or-replicate}
 use Rattle.descent.specs.declared.link.Link.{Link}
 use Rattle.descent.specs.Links.{no_link}
 use Rattle.hierarchy.specs.Tables.{ZeroFrom}
 use Rattle.names.specs.Tables.{padded}
 use Rattle.register.proofs.Backing.{links_few}
-use Rattle.book_meaning.specs.Tables.{HoldsEntries, TablesHoldExactlyTheEntries}
+use Rattle.book_meaning.specs.Tables.{TablesHoldExactlyTheEntries}
 
 zero_rest : (table : List Link) (count : ℕ) → count ≤ length table → ZeroFrom count table → drop count table ≡ replicate (length table - count) no_link
 zero_rest table count few zeros =

@@ -1,5 +1,5 @@
 -- Worked texts: what they enter, how it is settled and printed, and what is answered.
-use Rattle.std.specs.Prelude.{◌≡◌, ℕ, Bool, true, false, List, [], ◌∷◌, ◌++◌, map, length, Some, None, Ok, Err, codes, Option, Result}
+use Rattle.std.specs.Prelude.{◌≡◌, ℕ, Bool, true, List, [], ◌∷◌, map, length, Some, None, Ok, Err, codes, Result}
 use Prim.Native.String.{String}
 use Rattle.descent.specs.declared.link.Link.{Link}
 use Rattle.descent.specs.Computed.{descends, nearest}
@@ -14,12 +14,11 @@ use Rattle.rows.specs.KeptEntries.{kept_of, kept_count, kept_links}
 use Rattle.rows.specs.Rows.{rows_of}
 use Rattle.settling.specs.declared.outcome.Settled.{Settled}
 use Rattle.register.specs.declared.refusal.NotAsked.{NotAsked}
-use Rattle.register.specs.declared.refusal.NotAsked.TheVariants.{NotSettled, Unknown}
+use Rattle.register.specs.declared.refusal.NotAsked.TheVariants.{Unknown}
 use Rattle.register.specs.Asking.{numbers_answer, said_of}
 use Rattle.register.specs.Entries.{Entries, entries, nothing, with_texts}
 use Rattle.printing.specs.Printed.{printed}
-use Rattle.declarations.specs.declared.ticket.Ticket.{Ticket}
-use Rattle.declarations.specs.Histories.{Event, loads, opens, withdraws, settles, History, Moment, moment_after}
+use Rattle.declarations.specs.Histories.{loads, opens, withdraws, settles, History, moment_after}
 
 -- what an own text enters, and what settling gives for it by chain order and by joining
 pub record Worked : Type 0 where

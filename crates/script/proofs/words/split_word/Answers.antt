@@ -1,6 +1,6 @@
 use Rattle.std.proofs.Common.{◌≡◌, ◌+◌, ◌-◌, take, drop, Some, sym, ap, ◌∙◌, arith}
 use Rattle.std.proofs.lemmas.List.{take_rest, take_all}
-use Rattle.script.specs.Words.{word_length, word, rest}
+use Rattle.script.specs.Words.{word_length}
 use Rattle.script.proofs.Splitting.{rest_some, rest-none}
 use Rattle.script.proofs.words.split_word.Goals as goal
 
