@@ -1,6 +1,6 @@
 -- A printed book reads back.
 use Rattle.std.proofs.Common.{◌≡◌, ℕ, ◌≤◌, ltb, List, [], ◌∷◌, ◌++◌, length, None, Ok, Err, Option, Result, sym, refl, ap, subst, ap₂, arith}
-use Rattle.std.specs.List.{AllByRecursion as All}
+use Rattle.std.specs.List.{AllByRecursion}
 use Rattle.std.proofs.ByRecursion.{All-weaker}
 use Rattle.std.proofs.lemmas.Bool.{cond-false, le-ltb}
 use Rattle.descent.specs.declared.link.Link.{Link}
@@ -27,7 +27,7 @@ use Rattle.printing_meaning.proofs.NamesRead.{names_read}
 use Rattle.printing_meaning.proofs.TypesRead.{types_read}
 
 module _ (types : List (List ℕ)) (kept : List Link) (r : Room) (p : Printable types kept r) where
-  good : All Good types
+  good : AllByRecursion Good types
   good = All-weaker LawfulName Good good_from_lawful types p.lawful
 
   abbrev links : List Link

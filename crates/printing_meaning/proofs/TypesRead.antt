@@ -1,6 +1,6 @@
 -- Lines of types with their bases, all of them known.
 use Rattle.std.proofs.Common.{◌≡◌, ℕ, ◌+◌, ◌≤◌, Bool, true, false, cond, ◌&&◌, ltb, List, [], ◌∷◌, ◌++◌, length, Some, None, Option, sym, refl, ap, ◌∙◌, subst, ap₂, append_assoc, append-nil, arith}
-use Rattle.std.specs.List.{AllByRecursion as All}
+use Rattle.std.specs.List.{AllByRecursion}
 use Rattle.std.proofs.lemmas.List.{length-append}
 use Rattle.std.proofs.lemmas.Bool.{cond-true, cond-false, and_from, lt-ltb}
 use Rattle.descent.specs.declared.link.Link.{Link}
@@ -90,7 +90,7 @@ module _ (r : Room) (all : List (List ℕ)) where
       by_test false entered passed fits = passed fits
 
   -- the line of a known type
-  type_reads : (t : ℕ) (name : List ℕ) (bases : List (List ℕ)) (done after : List Link) → number_in all name ≡ Some t → Good name → All Good bases → ((c : ℕ) → BasesRead t done (columns c bases) after) → ReadsAll r (entries all done) (own_line name bases) (entries all after)
+  type_reads : (t : ℕ) (name : List ℕ) (bases : List (List ℕ)) (done after : List Link) → number_in all name ≡ Some t → Good name → AllByRecursion Good bases → ((c : ℕ) → BasesRead t done (columns c bases) after) → ReadsAll r (entries all done) (own_line name bases) (entries all after)
   type_reads t name [] done after known g a f = (f 0).0
   type_reads t name (base ∷ bases) done after known g a f =
       let held = columns (length name + 4) (base ∷ bases) in
@@ -107,7 +107,7 @@ module _ (r : Room) (all : List (List ℕ)) where
         refl,
       )
 
-  pub types_read : (links : List Link) → All Good all → Numbered all 0 all → (t : ℕ) (names : List (List ℕ)) (done : List Link) → All Good names → Numbered all t names → Before done t 0 → LinksFit r (done ++ type_links links all t names)
+  pub types_read : (links : List Link) → AllByRecursion Good all → Numbered all 0 all → (t : ℕ) (names : List (List ℕ)) (done : List Link) → AllByRecursion Good names → Numbered all t names → Before done t 0 → LinksFit r (done ++ type_links links all t names)
       → ReadsAll r (entries all done) (type_texts links all t names) (entries all (done ++ type_links links all t names))
   types_read links good numbers t [] done g n before fit = ap (entries all) (sym (append-nil done))
   types_read links good numbers t (name ∷ names) done g n before fit =

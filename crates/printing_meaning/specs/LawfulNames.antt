@@ -1,6 +1,6 @@
 -- Names that are lawful by themselves: those on lawful lines, and so those that texts enter.
 use Rattle.std.specs.Prelude.{◌≡◌, ℕ, List, [], ◌∷◌, map}
-use Rattle.std.specs.List.{AllByRecursion as All}
+use Rattle.std.specs.List.{AllByRecursion}
 use Rattle.grammar.specs.Grammar.{Named, named}
 use Rattle.grammar.specs.Reading.{reading, lawful}
 use Rattle.register.specs.Entries.{Entries, with_texts}
@@ -10,7 +10,7 @@ abbrev pub LawfulName : List ℕ → Type 0
 LawfulName name = reading name ≡ lawful (named 1 name ∷ [])
 
 abbrev pub LawfulNames : List (List ℕ) → Type 0
-LawfulNames names = All LawfulName names
+LawfulNames names = AllByRecursion LawfulName names
 
 -- each name on a lawful line is lawful by itself
 abbrev pub LinesHoldLawfulNames : Type 0
