@@ -77,8 +77,8 @@ module _ (pool : List ℕ) (spans : List Span) (size places count used : ℕ) (n
   laid_names = named pool spans size places count names l.pool_is l.spans_is l.count_is
 
   abbrev kept : List (List ℕ) → Type 0
-  kept ns = (used ≡ length (bytes_of ns)) × ((pool ≡ pool_of ns size) × ((spans ≡ spans_of ns places) × (Different ns × Unit {0})))
+  kept ns = (used ≡ length (bytes_of ns)) × (pool ≡ pool_of ns size) × (spans ≡ spans_of ns places) × Different ns
 
-  -- all that a value of `Names` keeps
-  pub laid_kept : ((count ≤ places) × (count ≤ most_types)) × (((used ≤ size) × (used ≤ most_bytes)) × kept (names_at pool spans count))
-  laid_kept = (l.few_types, (l.few_bytes, subst kept (sym laid_names) (l.used_is, (l.pool_is, (l.spans_is, (l.different, tt))))))
+  -- what a value of `Names` keeps of the names that its tables hold
+  pub laid_kept : kept (names_at pool spans count)
+  laid_kept = subst kept (sym laid_names) (l.used_is, l.pool_is, l.spans_is, l.different)

@@ -56,5 +56,5 @@ lines_count [] = omega arith
 lines_count (b ∷ bs) = count-step b bs (eqb b newline) (lines_count bs)
 
 -- the lines that are left, as the list that is gone through
-pub lines_road : (s : Lines) → YieldsList (λ s r t. Steps (option_map (λ (x : Bor (List ℕ)). x.now) s.rest) (option_map (λ x. x.now) r) (option_map (λ x. x.now) t.rest)) (λ (x : Bor (List ℕ)). x.now) s (lines_left (option_map (λ (x : Bor (List ℕ)). x.now) s.rest))
+pub lines_road : (s : Lines) → YieldsList (λ s r t. Steps (option_map (λ x. x.now) s.rest) (option_map (λ x. x.now) r) (option_map (λ x. x.now) t.rest)) (λ (x : Bor (List ℕ)). x.now) s (lines_left (option_map (λ x. x.now) s.rest))
 lines_road s = YieldsList-from_shown _ (λ x. x.now) (λ t. lines_left (option_map (λ x. x.now) t.rest)) (λ a b e. ap length e) (λ a x b e. e) s

@@ -34,14 +34,7 @@ invariant_of-self c =
     laid_entered c.args.self.now c.args.bytes.now c.in_default.ensures c.in_ok-check_place.ensures
     c.write_bytes.new.pool c.deref_mut.result.now c.write_bytes.ensures c.deref_mut.ensures.value (c.write_bytes.auto.pool ∙ c.deref_mut.ensures.len) in
     let kept = laid_kept _ _ _ _ _ _ _ laid in
-    record {
-      few_types = kept.0;
-      few_bytes = kept.1.0;
-      in_use = kept.1.1.0;
-      whole_pool = kept.1.1.1.0;
-      whole_table = kept.1.1.1.1.0;
-      different = kept.1.1.1.1.1.0;
-    }
+    record { few_types = laid.few_types; few_bytes = laid.few_bytes; in_use = kept.0; whole_pool = kept.1; whole_table = kept.2; different = kept.3 }
 
 pub returns : goal.returns
 returns c =

@@ -37,14 +37,7 @@ invariant_of-self c =
     c.wipe.new.table c.deref_mut.result.now c.wipe.ensures c.deref_mut.ensures.value (c.wipe.auto.table ∙ c.deref_mut.ensures.len)
     c.wipe-2.new.table c.deref_mut-2.result.now c.wipe-2.ensures c.deref_mut-2.ensures.value (c.wipe-2.auto.table ∙ c.deref_mut-2.ensures.len) in
     let kept = laid_kept _ _ _ _ _ _ _ laid in
-    record {
-      few_types = kept.0;
-      few_bytes = kept.1.0;
-      in_use = kept.1.1.0;
-      whole_pool = kept.1.1.1.0;
-      whole_table = kept.1.1.1.1.0;
-      different = kept.1.1.1.1.1.0;
-    }
+    record { few_types = laid.few_types; few_bytes = laid.few_bytes; in_use = kept.0; whole_pool = kept.1; whole_table = kept.2; different = kept.3 }
 
 pub returns : goal.returns
 returns c =
