@@ -4,8 +4,7 @@ use Rattle.settling.specs.declared.outcome.Unsettled.TheVariants.{ShortTable, Lo
 use Rattle.std.proofs.lemmas.List.{length-take-le}
 use Rattle.rows.specs.KeptEntries.{kept_of, kept_links}
 use Rattle.hierarchy.specs.Books.{book_of}
-use Rattle.names.specs.Held.{names_in}
-use Rattle.names.proofs.Laying.{length-names_at}
+use Rattle.names.proofs.Keeping.{holds_itself}
 use Rattle.register.specs.declared.register.Register.{Register}
 use Rattle.register.specs.Contents.{contents_of}
 use Rattle.register.specs.Entries.{Entries}
@@ -56,13 +55,13 @@ book_lawful h b t = let P : Moment → Type 0 = λ m. LawfulNames m.force.names 
 printable : (r : Register) → LawfulNames (contents_of r).entries.names → Printable (contents_of r).entries.names (contents_of r).entries.links (contents_of r).room
 printable r lawful =
     let n = r.names in
-    let counted : length (names_in n) ≡ n.count = length-names_at n.pool.items n.spans.items n.count (omega (arith, n.few_types.0, n.spans.ok.0)) in
+    let held = holds_itself n in
     let linked : length (contents_of r).entries.links ≡ r.numbered.entered.count = length-take-le (book_of r.numbered).held.count (book_of r.numbered).held.table (links_few r) in
     record {
       lawful = lawful;
       different = n.different;
-      few_types = (omega (arith, counted, n.few_types.0), omega (arith, counted, n.few_types.1));
-      few_bytes = (omega (arith, n.in_use, n.few_bytes.0), omega (arith, n.in_use, n.few_bytes.1));
+      few_types = held.few_types;
+      few_bytes = held.few_bytes;
       within = links_within r;
       few_links = (omega (arith, linked, links_few r), omega (arith, linked, r.numbered.entered.few_links.1));
     }

@@ -14,6 +14,7 @@ use Rattle.rows.specs.KeptEntries.{kept_of, kept_count, kept_links}
 use Rattle.rows.specs.Rows.{rows_of}
 use Rattle.settling.specs.declared.outcome.Settled.{Settled}
 use Rattle.register.specs.declared.refusal.NotAsked.{NotAsked}
+use Rattle.register.specs.declared.refusal.Which.TheVariants.{Second}
 use Rattle.register.specs.declared.refusal.NotAsked.TheVariants.{Unknown}
 use Rattle.register.specs.Asking.{numbers_answer, said_of}
 use Rattle.register.specs.Entries.{Entries, entries, nothing, with_texts}
@@ -111,7 +112,7 @@ abbrev pub WorkedBooks : Type 0
 WorkedBooks =
     (map worked_text texts ≡ told)
     -- A descends from B, and C is no type any more
-    × (asked withdrawn "A" "B" ∷ asked withdrawn "A" "C" ∷ [] ≡ Ok true ∷ Err (Unknown 2) ∷ [])
+    × (asked withdrawn "A" "B" ∷ asked withdrawn "A" "C" ∷ [] ≡ Ok true ∷ Err (Unknown Second) ∷ [])
     -- `A < A` is a loop of 1
     × (with_texts nothing [] (codes "A < A") ≡ entries (codes "A" ∷ []) (link 0 0 ∷ []))
     × Loop (link 0 0 ∷ []) (0 ∷ [])

@@ -6,23 +6,17 @@ ghost use Rattle.book_meaning.specs.Tables.{TablesHoldExactlyTheEntries};
 ghost use Rattle.book_meaning.specs.Worked.{WorkedBooks};
 
 /// Pool, name table and link table hold exactly what is entered at their front, and 0 in the rest, whatever calls were made.
-pub fn the_tables_hold_exactly_what_is_entered() -> u8
+pub fn the_tables_hold_exactly_what_is_entered()
     ensures { TablesHoldExactlyTheEntries }
-{
-    0
-}
+{}
 
 /// The text that a settled book is printed as, loaded into a new book of the same sizes, is accepted, and gives the same types
 /// with the same numbers and exactly the kept links.
-pub fn every_book_that_is_printed_reads_back() -> u8
+pub fn every_book_that_is_printed_reads_back()
     ensures { EveryBookReadsBack }
-{
-    0
-}
+{}
 
 /// Each worked text enters, settles and answers as it is told beside it.
-pub fn worked_texts_come_out_as_told() -> u8
+pub fn worked_texts_come_out_as_told()
     ensures { WorkedBooks }
-{
-    0
-}
+{}

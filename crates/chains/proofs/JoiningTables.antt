@@ -1,5 +1,5 @@
 -- The tables while chains are joined: their start, each turn, and their end.
-use Rattle.std.proofs.Common.{◌≡◌, ℕ, ◌+◌, ◌-◌, ◌<◌, ◌≤◌, true, cond, List, map, length, get_or, set, Some, None, sym, refl, ap, ◌∙◌, subst, inr, ⊎_elim, arith}
+use Rattle.std.proofs.Common.{◌≡◌, ℕ, ◌+◌, ◌-◌, ◌<◌, ◌≤◌, true, cond, List, map, length, get_or, set, Some, None, sym, refl, ap, ◌∙◌, subst, ⊎_elim, arith}
 use Rattle.std.specs.List.{range_with_len}
 use Rattle.std.proofs.lemmas.List.FromFn.{fill_by_all, get_or-map-range_with_len, length-map-range_with_len}
 use Rattle.std.proofs.lemmas.Bool.{cases_Bool, eq-eqb, ne_eqb, not_from_true, not_from_false}
@@ -48,16 +48,6 @@ pub record Turning (n : ℕ) (links : List Link) (start : Places) (count : ℕ) 
   pub standing : (d : ℕ) → c ≤ d → d < count → Stands n (places count chains positions) d (get_or first d 0) (get_or last d 0)
   pub left : turns n links (places count chains positions) c (count - c) ≡ turns n links start 0 count
 
-pub turning_none : {n : ℕ} {links : List Link} {chains positions first last : List ℕ} {count : ℕ} → Strung n links (places count chains positions)
-    → ((d : ℕ) → d < count → Stands n (places count chains positions) d (get_or first d 0) (get_or last d 0))
-    → Turning n links (places count chains positions) count chains positions first last 0
-turning_none {n} {links} {chains} {positions} {first} {last} {count} strung all = record {
-  strung = strung;
-  ends = λ d h. inr (all d h);
-  standing = λ d _ h. all d h;
-  left = let z : count - 0 ≡ count = omega arith in ap (turns n links (places count chains positions) 0) z;
-}
-
 module _ {n : ℕ} {links : List Link} {start : Places} {count : ℕ} {chains positions first last : List ℕ} {c : ℕ} (s : Turning n links start count chains positions first last c) (below : c < count) where
   abbrev before : Places
   before = places count chains positions
@@ -91,10 +81,6 @@ module _ {n : ℕ} {links : List Link} {start : Places} {count : ℕ} {chains po
           standing = λ f h k. subst (λ (x : Places). Stands n x f (get_or first f 0) (get_or last' f 0)) (sym e) (turn_standing a found room below f h k (s.standing f (omega arith) k));
           left = ap (λ x. turns n links x (c + 1) (count - (c + 1))) (e ∙ sym (turn_some a found)) ∙ turns_more n links before c count below ∙ s.left;
         }
-
--- a standing chain's last type is a type
-pub ends_below : (n : ℕ) (s : Places) (first last : List ℕ) → Ends n s first last → (d : ℕ) → d < s.count → (get_or last d 0 ≡ no_type → ⊥) → get_or last d 0 < n
-ends_below n s first last ends d h e = ⊎_elim (λ none. absurd (e none.0)) (λ stands. stands.last_below) (ends d h)
 
 -- ---- the end
 module _ (n : ℕ) (s : Places) (first last : List ℕ) (small : n ≤ 1024) (ends : Ends n s first last) where

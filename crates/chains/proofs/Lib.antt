@@ -4,3 +4,5 @@ pub mod Listings
 pub mod Marking
 pub mod Turns
 pub mod JoiningTables
+pub mod FreeBases
+pub mod Finds

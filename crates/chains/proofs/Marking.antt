@@ -1,14 +1,31 @@
 -- One pass over the links of higher-ranked types first marks what descends from a type.
-use Rattle.std.proofs.Common.{◌≡◌, ℕ, ◌+◌, ◌<◌, ◌≤◌, true, false, cond, ◌⊎◌, List, length, get_or, set, sym, refl, ap, ◌∙◌, subst, inl, inr, ⊎_elim, arith}
+use Rattle.std.proofs.Common.{◌≡◌, ℕ, ◌+◌, ◌<◌, ◌≤◌, true, false, cond, eqb, ◌⊎◌, List, length, get_or, set, sym, refl, ap, ◌∙◌, subst, inl, inr, ⊎_elim, arith}
 use Rattle.std.proofs.lemmas.List.{get_or-set_same, get_or-set_other}
 use Rattle.std.proofs.lemmas.Bool.{cases_eq, cases_Bool, cases_lt}
 use Rattle.std.proofs.lemmas.Bool.Decides.{not_from_Decides}
+use Rattle.std.proofs.lemmas.Bool.Decides.{Decides-below_or, Decides-eqb}
+use Rattle.std.proofs.Math.Logic.{∥∥₁_elim}
+use Rattle.std.proofs.Math.Nat.{ℕ_set}
+use Rattle.std.proofs.Math.Bridge.{le_prop}
+use Rattle.std.proofs.Math.Bool.{Bool-set}
 use Rattle.descent.specs.declared.link.Link.{Link}
 use Rattle.descent.specs.Computed.{descends}
 use Rattle.descent.specs.Links.{no_link, Linked, Path, Descends}
 use Rattle.descent.proofs.Closures.{decides_descends}
 use Rattle.descent.proofs.Descents.{descends-link, descends_trans, path_split}
+use Rattle.chains.specs.Counting.{some}
 use Rattle.chains.specs.Ranked.{Ranked, Falling}
+
+-- ranked types hold only that there is a proof of this; where a link stands in the table is found again by a search
+pub known_falling : {links : List Link} {rank falling : List ℕ} → ∥ Falling links rank falling ∥₁ → Falling links rank falling
+known_falling {links} {rank} {falling} x =
+    let here = λ (k : ℕ). Decides-below_or (λ i. eqb (get_or falling i 0) k) (λ i. get_or falling i 0 ≡ k) (λ m. some m (λ i. eqb (get_or falling i 0) k)) (λ i. Decides-eqb (get_or falling i 0) k) refl (λ _. refl) (length falling) in
+    record {
+      long = ∥∥₁_elim x (ℕ_set _ _) (λ f. f.long);
+      below = λ i h. ∥∥₁_elim x le_prop (λ f. f.below i h);
+      all = λ k h. (here k).0 (∥∥₁_elim x (Bool-set _ _) (λ f. (here k).1 (f.all k h)));
+      falls = λ i j h l. ∥∥₁_elim x le_prop (λ f. f.falls i j h l);
+    }
 
 -- after i links, in the order of the table: marks are 0 or 1; who is marked descends from t, t is marked, and so is the start of each of those links whose end descends from t
 pub record Marking (n : ℕ) (links : List Link) (falling marks : List ℕ) (t i : ℕ) : Type 0 where
@@ -16,17 +33,6 @@ pub record Marking (n : ℕ) (links : List Link) (falling marks : List ℕ) (t i
   pub sound : (x : ℕ) → x < n → get_or marks x 0 ≡ 1 → Descends links x t
   pub here : get_or marks t 0 ≡ 1
   pub swept : (j : ℕ) → j < i → j < length falling → Descends links (get_or links (get_or falling j 0) no_link).to t → get_or marks (get_or links (get_or falling j 0) no_link).from 0 ≡ 1
-
-pub marking_none : (n : ℕ) (links : List Link) (falling clear : List ℕ) (t : ℕ) → n ≤ length clear → ((x : ℕ) → x < n → get_or clear x 0 ≡ 0) → t < n → Marking n links falling (set clear t 1) t 0
-marking_none n links falling clear t room zero h =
-    let at : get_or (set clear t 1) t 0 ≡ 1 = get_or-set_same clear t 1 0 (omega arith) in
-    let there : (x : ℕ) → x < n → (x ≡ t → ⊥) → get_or (set clear t 1) x 0 ≡ 0 = λ x l e. get_or-set_other clear t x 1 0 e ∙ zero x l in
-    record {
-      bits = λ x l. ⊎_elim (λ (e : x ≡ t). inr (ap (λ y. get_or (set clear t 1) y 0) e ∙ at)) (λ (e : x ≡ t → ⊥). inl (there x l e)) (cases_eq x t);
-      sound = λ x l g. ⊎_elim (λ (e : x ≡ t). inl e) (λ (e : x ≡ t → ⊥). let z : ⊥ = omega (arith, there x l e) in absurd z) (cases_eq x t);
-      here = at;
-      swept = λ j l k d. let z : ⊥ = omega arith in absurd z;
-    }
 
 module _ {n : ℕ} {links : List Link} {order rank falling marks : List ℕ} {t i : ℕ} (ranks : Ranked n links order rank) (falls : Falling links rank falling) (s : Marking n links falling marks t i) (in' : i < length falling) where
   abbrev k : ℕ

@@ -204,6 +204,3 @@ module _ {n : ℕ} {links : List Link} {s : Places} {first last marks : List ℕ
 -- ---- turns
 pub turns_more : (n : ℕ) (links : List Link) (s : Places) (c count : ℕ) → c < count → turns n links (turn n links s c) (c + 1) (count - (c + 1)) ≡ turns n links s c (count - c)
 turns_more n links s c count h = let z : count - c ≡ suc (count - (c + 1)) = omega arith in sym (ap (turns n links s c) z)
-
-pub turns_end : (n : ℕ) (links : List Link) (s : Places) (c count : ℕ) → count ≤ c → turns n links s c (count - c) ≡ s
-turns_end n links s c count h = let z : count - c ≡ 0 = omega arith in ap (turns n links s c) z

@@ -1,6 +1,6 @@
 -- How many numbers below a bound pass a test.
 use Rattle.std.specs.Prelude.{◌≡◌, ℕ, zero, suc, ◌+◌, ◌<◌, ◌≤◌, Bool, true, false, cond, ◌≢◌, refl}
-use Rattle.std.proofs.Common.{sym, ap, subst, ◌∙◌, ⊎_elim, add-one, arith}
+use Rattle.std.proofs.Common.{sym, ap, subst, ◌∙◌, ⊎_elim, arith}
 use Rattle.std.proofs.lemmas.Bool.{cases_eq, cases_lt, cases_Bool}
 use Rattle.chains.specs.Counting.{passing}
 
@@ -70,10 +70,3 @@ passing-at (suc m) c p h =
     (λ (e : p m ≡ false). let z : ⊥ = omega (arith, passing_no m p e) in absurd z)
     (cases_Bool (p m)))
     (cases_lt c (passing m p))
-
--- the next bound
-pub passing_next_yes : (m : ℕ) (p : ℕ → Bool) → p m ≡ true → passing (m + 1) p ≡ passing m p + 1
-passing_next_yes m p e = ap (λ k. passing k p) (add-one m) ∙ passing_yes m p e ∙ omega arith
-
-pub passing_next_no : (m : ℕ) (p : ℕ → Bool) → p m ≡ false → passing (m + 1) p ≡ passing m p
-passing_next_no m p e = ap (λ k. passing k p) (add-one m) ∙ passing_no m p e ∙ omega arith

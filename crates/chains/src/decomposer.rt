@@ -2,7 +2,6 @@
 ghost use Rattle.std.specs.Prelude.{◌≡◌, ℕ, ◌*◌, ◌≤◌, List, length, take, drop};
 ghost use Rattle.descent.specs.declared.link.Link.{Link as Edge};
 ghost use Rattle.chains.specs.Meaning.{Decomposes};
-ghost use Rattle.chains.specs.Ranked.{Ranked, Falling};
 
 use crate::ranked::RankedTypes;
 
@@ -26,10 +25,6 @@ pub trait Decomposer {
         chain: &mut [u16],
         position: &mut [u16],
     ) -> u16
-        requires few { ranked.now.types ≤ 1024 }
-        requires ranked { Ranked ranked.now.types ranked.now.links.now ranked.now.order.now ranked.now.rank.now }
-        requires falling { Falling ranked.now.links.now ranked.now.rank.now ranked.now.falling.now }
-        requires rank_room { ranked.now.types ≤ length ranked.now.rank.now }
         requires scratch_room { 3 * ranked.now.types ≤ length scratch.old }
         requires chain_room { ranked.now.types ≤ length chain.old }
         requires position_room { ranked.now.types ≤ length position.old }

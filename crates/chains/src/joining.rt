@@ -10,19 +10,19 @@ ghost use Rattle.chains.specs.Chains.{Chained};
 ghost use Rattle.chains.specs.Joining.{put_behind, turns, joined};
 ghost use Rattle.chains.specs.Meaning.{JoinedFrom};
 ghost use Rattle.chains.specs.Places.{places};
-ghost use Rattle.chains.specs.Ranked.{Ranked, Falling};
 ghost use Rattle.chains.specs.Renumbering.{joining_decomposes};
 
 use crate::decomposer::Decomposer;
 use crate::ranked::RankedTypes;
 
-// What the table of last types holds for a chain that does not stand.
+// The tables go as slices: a struct of them would ask each function that writes to them to promise that it still holds the
+// same ones, which says no less than their lengths do.
+
+// What the table of last types holds for a chain that does not stand: it is lent, and has 16-bit numbers.
 const NO_TYPE: u16 = 65535;
 
-// Marks with 1 the types that are t or have a path to it, and the others with 0.
+// Marks with 1 the types that are t or have a path to it, and the others with 0: the marks are a part of the lent numbers.
 fn mark_paths(ranked: &RankedTypes, t: u16, marks: &mut [u16])
-    requires ranked { Ranked ranked.now.types ranked.now.links.now ranked.now.order.now ranked.now.rank.now }
-    requires falling { Falling ranked.now.links.now ranked.now.rank.now ranked.now.falling.now }
     requires below { t < ranked.now.types }
     requires room { ranked.now.types ≤ length marks.old }
     ensures { (x : ℕ) → x < ranked.now.types → slice_index marks.new x ≡ (if descends ranked.now.links.now x t then 1 else 0) }
@@ -43,13 +43,10 @@ fn find_host(count: u16, c: u16, last: &[u16], marks: &[u16]) -> Option<u16>
     requires types { (d : ℕ) → d < count → (slice_index last.now d ≢ 65535) → slice_index last.now d < length marks.now }
     ensures { result ≡ lowest (is_host c last.now marks.now) 0 count }
 {
-    for d in 0..count {
-        let end = last[d as usize];
-        if d != c && end != NO_TYPE && marks[end as usize] == 1 {
-            return Some(d);
-        }
-    }
-    None
+    (0..count).find(|d| {
+        let end = last[*d as usize];
+        *d != c && end != NO_TYPE && marks[end as usize] == 1
+    })
 }
 
 // Puts chain c behind the type u: its types are then on u's chain, at the positions after u's.
@@ -61,9 +58,9 @@ fn put_behind(c: u16, u: u16, chain: &mut [u16], position: &mut [u16])
 {
     let host = chain[u as usize];
     let shift = position[u as usize] + 1;
-    for t in 0..chain.len() {
-        if chain[t] == c {
-            chain[t] = host;
+    for (t, on) in chain.iter_mut().enumerate() {
+        if *on == c {
+            *on = host;
             position[t] += shift;
         }
     }
@@ -77,9 +74,9 @@ fn find_firsts(chain: &[u16], position: &[u16], first: &mut [u16])
     requires apart { (t u : ℕ) → t < length chain.now → u < length chain.now → slice_index chain.now t ≡ slice_index chain.now u → slice_index position.now t ≡ slice_index position.now u → t ≡ u }
     ensures { (t : ℕ) → t < length chain.now → slice_index position.now t ≡ 0 → slice_index first.new (slice_index chain.now t) ≡ t }
 {
-    for t in 0..chain.len() {
-        if position[t] == 0 {
-            first[chain[t] as usize] = t as u16;
+    for (t, (c, at)) in chain.iter().zip(position).enumerate() {
+        if *at == 0 {
+            first[*c as usize] = t as u16;
         }
     }
 }
@@ -94,10 +91,10 @@ fn find_lasts(count: u16, chain: &[u16], position: &[u16], last: &mut [u16])
     ensures some { (c : ℕ) → c < count → (slice_index last.new c < length chain.now) × (slice_index chain.now (slice_index last.new c) ≡ c) }
     ensures top { (t : ℕ) → t < length chain.now → slice_index position.now t ≤ slice_index position.now (slice_index last.new (slice_index chain.now t)) }
 {
-    for t in 0..chain.len() {
-        let c = chain[t] as usize;
-        if position[last[c] as usize] < position[t] {
-            last[c] = t as u16;
+    for (t, c) in chain.iter().enumerate() {
+        let end = &mut last[*c as usize];
+        if position[*end as usize] < position[t] {
+            *end = t as u16;
         }
     }
 }
@@ -112,9 +109,6 @@ fn take_turns(
     chain: &mut [u16],
     position: &mut [u16],
 )
-    requires few { ranked.now.types ≤ 1024 }
-    requires ranked { Ranked ranked.now.types ranked.now.links.now ranked.now.order.now ranked.now.rank.now }
-    requires falling { Falling ranked.now.links.now ranked.now.rank.now ranked.now.falling.now }
     requires first_room { count ≤ length first.now }
     requires last_room { count ≤ length last.old }
     requires marks_room { ranked.now.types ≤ length marks.old }
@@ -126,6 +120,7 @@ fn take_turns(
     ensures ends { Ends ranked.now.types (places count chain.new position.new) first.now last.new }
     ensures below { (t : ℕ) → t < ranked.now.types → slice_index chain.new t < count }
 {
+    // By number: the number of a chain is also what the table of chains holds for its types.
     for c in 0..count {
         mark_paths(ranked, first[c as usize], marks);
         if let Some(d) = find_host(count, c, last, marks) {
@@ -143,10 +138,11 @@ fn number_standing(count: u16, last: &[u16], number: &mut [u16]) -> u16
     ensures numbers { (d : ℕ) → d < count → slice_index number.new d ≡ passing d (has_last last.now) }
     ensures count { result ≡ passing count (has_last last.now) }
 {
+    // Each chain's entry gets the count so far, so it is kept on the way.
     let mut standing: u16 = 0;
-    for d in 0..count {
-        number[d as usize] = standing;
-        if last[d as usize] != NO_TYPE {
+    for (d, end) in last[..count as usize].iter().enumerate() {
+        number[d] = standing;
+        if *end != NO_TYPE {
             standing += 1;
         }
     }
@@ -158,8 +154,8 @@ fn renumber(number: &[u16], chain: &mut [u16])
     requires below { (t : ℕ) → t < length chain.old → slice_index chain.old t < length number.now }
     ensures { chain.new ≡ map (λ t. slice_index number.now (slice_index chain.old t)) (range_with_len 0 (length chain.old)) }
 {
-    for t in 0..chain.len() {
-        chain[t] = number[chain[t] as usize];
+    for c in chain.iter_mut() {
+        *c = number[*c as usize];
     }
 }
 
@@ -171,9 +167,6 @@ fn join_chains(
     chain: &mut [u16],
     position: &mut [u16],
 ) -> u16
-    requires few { ranked.now.types ≤ 1024 }
-    requires ranked { Ranked ranked.now.types ranked.now.links.now ranked.now.order.now ranked.now.rank.now }
-    requires falling { Falling ranked.now.links.now ranked.now.rank.now ranked.now.falling.now }
     requires count { count ≤ ranked.now.types }
     requires scratch_room { 3 * ranked.now.types ≤ length scratch.old }
     requires chain_room { length chain.old ≡ ranked.now.types }
@@ -218,8 +211,8 @@ impl<D: Decomposer> Decomposer for Joining<D> {
             ranked,
             count,
             scratch,
-            &mut chain[0..types],
-            &mut position[0..types],
+            &mut chain[..types],
+            &mut position[..types],
         )
     }
 }

@@ -8,7 +8,8 @@ use Rattle.register.specs.declared.refusal.Unloaded.TheVariants.{Refused, NoMemo
 use Rattle.register.specs.Entries.{Entries, entries, with_lines, with_texts}
 use Rattle.register.specs.Contents.{Contents, changed, LoadsAs}
 use Rattle.register.specs.Growing.{Grown}
-use Rattle.register.proofs.Going.{grown_lines, grown_self}
+use Rattle.register.proofs.Growth.{grown_self}
+use Rattle.register.proofs.Going.{grown_lines}
 use Rattle.declarations.specs.declared.ticket.Mark.{Mark}
 use Rattle.declarations.specs.Marks.{types_marked, links_marked, aside_of}
 use Rattle.declarations.specs.Books.{State, with_contents}

@@ -1,5 +1,5 @@
 -- A settle as a call of a list.
-use Rattle.std.proofs.Common.{◌≡◌, ℕ, ◌+◌, ◌<◌, ◌≤◌, List, [], ◌∷◌, ◌++◌, length, get_or, take, None, Ok, Err, vec_len, Result, sym, refl, ap, ◌∙◌, subst, take_all}
+use Rattle.std.proofs.Common.{◌≡◌, ℕ, ◌+◌, ◌<◌, ◌≤◌, List, [], ◌∷◌, ◌++◌, length, get_or, take, None, Ok, Err, Result, sym, refl, ap, ◌∙◌, subst, take_all}
 use Rattle.std.proofs.lemmas.List.{take_more, length-replicate}
 use Rattle.settling.specs.declared.outcome.Settled.{Settled}
 use Rattle.settling.specs.declared.outcome.Unsettled.{Unsettled}
@@ -12,13 +12,14 @@ use Rattle.register.specs.Places.{room}
 use Rattle.declarations.specs.declared.book.Book.{Book}
 use Rattle.declarations.specs.declared.call.Call.{Call}
 use Rattle.declarations.specs.declared.call.Answer.{Answer}
-use Rattle.declarations.specs.declared.call.TableSizes.{TableSizes}
+use Rattle.register.specs.declared.tables.TableSizes.{TableSizes}
 use Rattle.declarations.specs.Histories.{History, Moment, moment_after, Setup, AllRight}
 use Rattle.declarations.proofs.Keeping.{law_kept}
 use Rattle.declarations.specs.declared.call.Answer.TheVariants.{Settle as WasSettled}
 use Rattle.declarations.specs.Books.{State, state, state_of}
 use Rattle.declarations.specs.Telling.{setup_of, places_in, entries_in, SettleGoes, TellsState}
-use Rattle.declarations.specs.Running.{SettleMoves, Happened, Recorded, one_more, CallMoves, Ran, TablesOf, setup_for}
+use Rattle.declarations.specs.Running.{SettleMoves, Happened, Recorded, one_more, CallMoves, Ran, setup_for}
+use Rattle.register.specs.Tables.{lengths_of}
 
 settle_moves_at : (Gives : Giving) (before after : State) (loop scratch : ℕ) (r : Result Settled Unsettled) → SettleGoes Gives before loop scratch r after → setup_of after ≡ setup_of before → SettleMoves Gives before loop scratch (WasSettled r) after
 settle_moves_at Gives before after loop scratch (Ok n) h setup = (Ok n, places_in after.contents n.chains, entries_in after.contents, refl, h.0, record { goes = h.1; setup = setup })
@@ -61,15 +62,11 @@ all_ran {D} gives count relates k calls i answers book u all setup =
       tells = u.tells;
     }
 
-abbrev setup_from : ℕ → ℕ → ℕ → ℕ → ℕ → ℕ → ℕ → ℕ → ℕ → Setup
-setup_from number pool names links order chain position kept index = record { number = number; room = room pool names links; sizes = sizes order chain position kept index }
+abbrev setup_from : ℕ → TableSizes → ℕ → ℕ → ℕ → ℕ → ℕ → Setup
+setup_from number t order chain position kept index = record { number = number; room = room t.pool t.names t.links; sizes = sizes order chain position kept index }
 
 -- what a new book over such tables is made with
-pub new_setup : (number : ℕ) (t : TableSizes) (tables : Tables) (s : State) → TablesOf t tables
-    → s ≡ state (new_contents number (vec_len tables.pool) (vec_len tables.names) (vec_len tables.links) (vec_len tables.order) (vec_len tables.chain) (vec_len tables.position) (vec_len tables.kept) (vec_len tables.index)) 0 None 0
-    → setup_of s ≡ setup_for number t
+pub new_setup : (number : ℕ) (t : TableSizes) (tables : Tables) (s : State) → lengths_of tables ≡ t → s ≡ state (new_contents number (lengths_of tables)) 0 None 0 → setup_of s ≡ setup_for number t
 new_setup number t tables s h e =
-    ap setup_of e
-    ∙ (λ i. setup_from number (h.pool i) (h.names i) (h.links i)
-    ((length-replicate {A = ℕ} (vec_len tables.order) 65535 ∙ h.order) i) ((length-replicate {A = ℕ} (vec_len tables.chain) 65535 ∙ h.chain) i) ((length-replicate {A = ℕ} (vec_len tables.position) 65535 ∙ h.position) i)
-    ((length-replicate {A = ℕ} (vec_len tables.kept) 65535 ∙ h.kept) i) ((length-replicate {A = ℕ} (vec_len tables.index) 65535 ∙ h.index) i))
+    ap setup_of e ∙ ap (λ k. setup_of (state (new_contents number k) 0 None 0)) h
+    ∙ (λ i. setup_from number t (length-replicate {A = ℕ} t.order 65535 i) (length-replicate {A = ℕ} t.chain 65535 i) (length-replicate {A = ℕ} t.position 65535 i) (length-replicate {A = ℕ} t.kept 65535 i) (length-replicate {A = ℕ} t.index 65535 i))

@@ -1,5 +1,5 @@
 -- A list of calls on a new book: the history that they and their answers make.
-use Rattle.std.specs.Prelude.{◌≡◌, ℕ, Bool, List, [], ◌∷◌, ◌++◌, Ok, Err, vec_len, Result}
+use Rattle.std.specs.Prelude.{◌≡◌, ℕ, Bool, List, [], ◌∷◌, ◌++◌, Ok, Err, Result}
 use Rattle.chains.specs.Places.{Places}
 use Rattle.settling.specs.declared.outcome.Settled.{Settled}
 use Rattle.settling.specs.declared.outcome.Unsettled.{Unsettled}
@@ -15,11 +15,10 @@ use Rattle.declarations.specs.declared.call.Call.TheVariants.{Load, Open, Keep, 
 use Rattle.declarations.specs.declared.call.Answer.{Answer}
 use Rattle.declarations.specs.declared.call.Answer.TheVariants.{Load as Loaded, Open as Opened, Keep as WasKept, Withdraw as Withdrawn, Settle as WasSettled, Ask as Asked}
 use Rattle.declarations.specs.declared.call.Stub.{Stub}
-use Rattle.declarations.specs.declared.call.TableSizes.{TableSizes}
+use Rattle.register.specs.declared.tables.TableSizes.{TableSizes}
 use Rattle.declarations.specs.declared.ticket.Ticket.{Ticket}
 use Rattle.declarations.specs.declared.ticket.NotOpen.{NotOpen}
 use Rattle.declarations.specs.declared.ticket.Unopened.{Unopened}
-use Rattle.register.specs.declared.tables.Tables.{Tables}
 use Rattle.declarations.specs.Books.{State, state_of}
 use Rattle.declarations.specs.Histories.{Event, loads, opens, keeps, withdraws, settles, asks, History, moment_after, Setup}
 use Rattle.declarations.specs.Law.{Law}
@@ -66,17 +65,6 @@ pub record Ran {D S : Type 0} (gives : D → Giving) (count : S → ℕ) (relate
   pub law : Law count relates k history
   pub setup : setup_of (state_of book) ≡ k
   pub tells : Tells history book
-
--- tables of these sizes
-pub record TablesOf (sizes : TableSizes) (t : Tables) : Type 0 where
-  pub pool : vec_len t.pool ≡ sizes.pool
-  pub names : vec_len t.names ≡ sizes.names
-  pub links : vec_len t.links ≡ sizes.links
-  pub order : vec_len t.order ≡ sizes.order
-  pub chain : vec_len t.chain ≡ sizes.chain
-  pub position : vec_len t.position ≡ sizes.position
-  pub kept : vec_len t.kept ≡ sizes.kept
-  pub index : vec_len t.index ≡ sizes.index
 
 -- the histories of a book go on with an event, and what it was made with stays
 pub record Moves (before : State) (event : Event) (after : State) : Type 0 where

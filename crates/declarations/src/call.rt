@@ -1,10 +1,11 @@
 // Calls on a book and their answers, as values.
 use crate::ticket::Unopened;
 use register::refusal::{NotAsked, Refusal};
+pub use register::tables::TableSizes;
 use settling::outcome::{Settled, Unsettled};
 
 /// The two numbers of a ticket: the book's and the trial's.
-#[derive(Clone, Copy)]
+#[derive(Clone, Copy, Debug, PartialEq, Eq)]
 pub struct Stub {
     pub book: u32,
     pub trial: u32,
@@ -12,7 +13,7 @@ pub struct Stub {
 
 /// A call on a book. A ticket is named by its two numbers, so that it may also be one of another book or a spent one; a settle
 /// has a decomposer, and so many entries in its loop and scratch tables.
-#[derive(Drop)]
+#[derive(Debug, Drop, PartialEq, Eq)]
 pub enum Call<'t, D> {
     Load {
         shipped: &'t [u8],
@@ -33,7 +34,7 @@ pub enum Call<'t, D> {
 }
 
 /// What a call answered. A ticket that was handed out or came back is told by its two numbers.
-#[derive(Clone, Copy)]
+#[derive(Clone, Copy, Debug, PartialEq, Eq)]
 pub enum Answer {
     Load(Result<(), Refusal>),
     Open(Result<Stub, Unopened>),
@@ -41,17 +42,4 @@ pub enum Answer {
     Withdraw(Result<(), Stub>),
     Settle(Result<Settled, Unsettled>),
     Ask(Result<bool, NotAsked>),
-}
-
-/// How many entries the tables of a book have.
-#[derive(Clone, Copy)]
-pub struct TableSizes {
-    pub pool: usize,
-    pub names: usize,
-    pub links: usize,
-    pub order: usize,
-    pub chain: usize,
-    pub position: usize,
-    pub kept: usize,
-    pub index: usize,
 }

@@ -1,8 +1,9 @@
 // The calls on a book. Each answers as its questions say, leaves exactly the defined state, and carries a history of the book
 // on by one event.
-ghost use Rattle.std.specs.Prelude.{◌≡◌, [], length, None, vec_len};
+ghost use Rattle.std.specs.Prelude.{◌≡◌, [], length, None};
 ghost use Rattle.register.specs.Asking.{ask_answer};
 ghost use Rattle.register.specs.Contents.{new_contents};
+ghost use Rattle.register.specs.Tables.{lengths_of};
 ghost use Rattle.declarations.specs.Books.{state, state_of, BookLoads, BookSettles, after_open, after_keep, after_withdraw, after_ask, EndsTrial};
 ghost use Rattle.declarations.specs.Histories.{opens, keeps, withdraws, asks as asks-event};
 ghost use Rattle.declarations.specs.Telling.{Tells, Goes, LoadGoes, SettleGoes};
@@ -23,7 +24,7 @@ pub const MOST_TRIALS: u32 = 4_294_967_295;
 impl Book {
     /// A book with nothing entered over these tables: sets pool, names and links to 0 and the others to 65,535 throughout.
     pub fn new(number: u32, tables: Tables) -> Book
-        ensures after { state_of result ≡ state (new_contents number (vec_len tables.pool) (vec_len tables.names) (vec_len tables.links) (vec_len tables.order) (vec_len tables.chain) (vec_len tables.position) (vec_len tables.kept) (vec_len tables.index)) 0 None 0 }
+        ensures after { state_of result ≡ state (new_contents number (lengths_of tables)) 0 None 0 }
         ensures told { Tells [] result }
     {
         Book {
@@ -88,26 +89,20 @@ impl Book {
         ensures after { state_of self.new ≡ after_keep (state_of self.old) result }
         ensures told { Goes (state_of self.old) (keeps ticket result) (state_of self.new) }
     {
-        match self.end_trial(ticket) {
-            Ok(_) => Ok(()),
-            Err(refusal) => Err(refusal),
-        }
+        self.end_trial(ticket)?;
+        Ok(())
     }
 
-    /// Takes the ticket, ends the trial, and takes back every type and link that was entered since it began: their places are 0 again.
+    /// Takes the ticket, ends the trial, and takes back every type and link that was entered since it began: their places
+    /// are 0 again.
     pub fn withdraw(&mut self, ticket: Ticket) -> Result<(), NotOpen>
         ensures answer { result ≡ spend_answer (state_of self.old).contents.number (state_of self.old).mark (state_of self.old).opened ticket }
         ensures after { state_of self.new ≡ after_withdraw (state_of self.old) result }
         ensures told { Goes (state_of self.old) (withdraws ticket result) (state_of self.new) }
     {
-        let mark = match self.end_trial(ticket) {
-            Ok(mark) => mark,
-            Err(refusal) => return Err(refusal),
-        };
-        match self.register.take_back(mark.types, mark.links) {
-            Ok(()) => Ok(()),
-            Err(_) => unreachable(),
-        }
+        let mark = self.end_trial(ticket)?;
+        self.register.take_back(mark.types, mark.links).unwrap();
+        Ok(())
     }
 
     /// Settles what is in force, with a loop table, working memory and a decomposer.

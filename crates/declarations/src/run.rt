@@ -1,15 +1,13 @@
 // A list of calls on a new book: the call that carries the law.
-ghost use Rattle.std.specs.Prelude.{◌≡◌, IfOk, vec_len};
+ghost use Rattle.std.specs.Prelude.{◌≡◌, IfOk};
 ghost use Rattle.declarations.specs.Books.{state_of};
-ghost use Rattle.declarations.specs.Running.{TablesOf, stub_of, LoadMoves, OpenMoves, KeepMoves, WithdrawMoves, SettleMoves, AskMoves, CallMoves, Ran, setup_for};
+ghost use Rattle.declarations.specs.Running.{ticket_of, stub_of, came_back, LoadMoves, OpenMoves, KeepMoves, WithdrawMoves, SettleMoves, AskMoves, CallMoves, Ran, setup_for};
 
 use crate::book::Book;
 use crate::call::{Answer, Call, Stub, TableSizes};
 use crate::ticket::{NotOpen, Ticket};
 use chains::decomposer::Decomposer;
 use descent::answerer::Answerer;
-use descent::link::Link;
-use names::span::Span;
 use register::refusal::Unloaded;
 use register::tables::Tables;
 use std::alloc::{AllocError, Global};
@@ -21,23 +19,26 @@ pub struct Outcome {
     pub answers: Vec<Answer>,
 }
 
-// Tables of these sizes.
-fn make_tables(heap: Global, sizes: TableSizes) -> Result<Tables, AllocError>
-    ensures { IfOk result (λ t. TablesOf sizes t) }
-{
-    Ok(Tables {
-        pool: vec![in heap; 0u8; sizes.pool]?,
-        names: vec![in heap; Span {
-            start: 0,
-            length: 0
-        }; sizes.names]?,
-        links: vec![in heap; Link { from: 0, to: 0 }; sizes.links]?,
-        order: vec![in heap; 0u16; sizes.order]?,
-        chain: vec![in heap; 0u16; sizes.chain]?,
-        position: vec![in heap; 0u16; sizes.position]?,
-        kept: vec![in heap; 0u16; sizes.kept]?,
-        index: vec![in heap; 0u16; sizes.index]?,
-    })
+impl Stub {
+    // The ticket of these two numbers. No `From`, which every host could call: it would make tickets.
+    fn to_ticket(self) -> Ticket
+        ensures { result ≡ ticket_of self }
+    {
+        Ticket {
+            book: self.book,
+            trial: self.trial,
+        }
+    }
+}
+
+impl Ticket {
+    // The two numbers of the ticket, which is spent. No `From`, which every host could call: it would spend tickets.
+    fn into_stub(self) -> Stub
+        ensures { result ≡ stub_of self }
+    {
+        let Ticket { book, trial } = self;
+        Stub { book, trial }
+    }
 }
 
 fn load(heap: Global, book: &mut Book, shipped: &[u8], own: &[u8]) -> Result<Answer, AllocError>
@@ -45,58 +46,38 @@ fn load(heap: Global, book: &mut Book, shipped: &[u8], own: &[u8]) -> Result<Ans
 {
     match book.load(heap, shipped, own) {
         Ok(()) => Ok(Answer::Load(Ok(()))),
-        Err(unloaded) => match unloaded {
-            Unloaded::Refused(refusal) => Ok(Answer::Load(Err(refusal))),
-            Unloaded::NoMemory => Err(AllocError),
-        },
+        Err(Unloaded::Refused(refusal)) => Ok(Answer::Load(Err(refusal))),
+        Err(Unloaded::NoMemory) => Err(AllocError),
     }
 }
 
 fn open(book: &mut Book) -> Answer
     ensures { OpenMoves (state_of book.old) result (state_of book.new) }
 {
-    match book.open() {
-        Ok(ticket) => {
-            let Ticket { book, trial } = ticket;
-            Answer::Open(Ok(Stub { book, trial }))
-        }
-        Err(refusal) => Answer::Open(Err(refusal)),
-    }
+    Answer::Open(book.open().map(|ticket| ticket.into_stub()))
 }
 
-// The numbers of a ticket that came back.
-fn stub_of(refusal: NotOpen) -> Stub
-    ensures { result ≡ stub_of refusal.ticket }
+// The answer of a keep or a withdraw, with the numbers of the ticket that came back.
+fn came_back(spent: Result<(), NotOpen>) -> Result<(), Stub>
+    ensures { result ≡ came_back spent }
 {
-    let NotOpen { ticket } = refusal;
-    let Ticket { book, trial } = ticket;
-    Stub { book, trial }
+    spent.map_err(|refusal| {
+        let NotOpen { ticket } = refusal;
+        ticket.into_stub()
+    })
 }
 
+// Two functions: a keep and a withdraw leave the book differently, and each says so in its contract.
 fn keep(book: &mut Book, stub: Stub) -> Answer
     ensures { KeepMoves (state_of book.old) stub result (state_of book.new) }
 {
-    let ticket = Ticket {
-        book: stub.book,
-        trial: stub.trial,
-    };
-    match book.keep(ticket) {
-        Ok(()) => Answer::Keep(Ok(())),
-        Err(refusal) => Answer::Keep(Err(stub_of(refusal))),
-    }
+    Answer::Keep(came_back(book.keep(stub.to_ticket())))
 }
 
 fn withdraw(book: &mut Book, stub: Stub) -> Answer
     ensures { WithdrawMoves (state_of book.old) stub result (state_of book.new) }
 {
-    let ticket = Ticket {
-        book: stub.book,
-        trial: stub.trial,
-    };
-    match book.withdraw(ticket) {
-        Ok(()) => Answer::Withdraw(Ok(())),
-        Err(refusal) => Answer::Withdraw(Err(stub_of(refusal))),
-    }
+    Answer::Withdraw(came_back(book.withdraw(stub.to_ticket())))
 }
 
 fn ask(book: &mut Book, first: &[u8], second: &[u8]) -> Answer
@@ -152,7 +133,7 @@ pub fn run<D: Decomposer, A: Answerer>(
 ) -> Result<Outcome, AllocError>
     ensures { IfOk result (λ o. Ran D.Decomposer.gives A.Answerer.count A.Answerer.relates (setup_for number sizes) calls.now o.answers.items o.book) }
 {
-    let tables = make_tables(heap, sizes)?;
+    let tables = Tables::with_sizes(heap, sizes)?;
     let mut book = Book::new(number, tables);
     let mut answers = Vec::new(heap);
     for call in calls {

@@ -9,11 +9,14 @@ pub struct Ticket {
 }
 
 /// What was entered when a trial began: so many types and links.
-#[derive(Clone, Copy)]
+#[derive(Clone, Copy, Debug, PartialEq, Eq)]
 pub struct Mark {
     pub(crate) types: u16,
     pub(crate) links: usize,
 }
+
+/// The number of the refusal of an open.
+pub const UNOPENED: u8 = 14;
 
 /// The number of the refusal of a ticket that is not the open trial's.
 pub const NOT_OPEN: u8 = 15;
@@ -53,10 +56,7 @@ impl Unopened {
     pub fn number(&self) -> u8
         ensures { result ≡ 14 }
     {
-        match *self {
-            Unopened::TrialOpen => 14,
-            Unopened::NoMoreTrials => 14,
-        }
+        UNOPENED
     }
 }
 

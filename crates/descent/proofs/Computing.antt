@@ -4,11 +4,12 @@ use Rattle.std.proofs.lemmas.List.{get_or-map}
 use Rattle.std.proofs.lemmas.Bool.{cases_eq, cases_Bool, both_ways, and_parts, and_from, and_cases, false≢true}
 use Rattle.std.proofs.lemmas.Bool.Decides.{Decides-eqb, Decides-or, Decides-and, Decides-not, Decides-like, not_from_Decides}
 use Rattle.descent.specs.declared.link.Link.{Link}
-use Rattle.descent.specs.Computed.{Computes, implied, flags, every, lowest, or_else, common, near, nearest}
+use Rattle.descent.specs.Computed.{Computes, implied, flags, every, lowest, common, near, nearest}
 use Rattle.descent.specs.Links.{no_link, Linked, Within}
 use Rattle.descent.specs.Nearests.{Common, Undercuts, Near, Nearest}
 use Rattle.descent.specs.Trims.{Implied, Flag, Flagged}
 use Rattle.descent.proofs.Bases.{no_common_base}
+use Rattle.descent.proofs.Lowest.{lowest_some, lowest_none, lowest-first, option_cases}
 use Rattle.descent.proofs.Closures.{linked_tail, linked_cases}
 
 -- ---- flags
@@ -44,17 +45,14 @@ abbrev Lowest : ℕ → (ℕ → Bool) → Option ℕ → Type 0
 Lowest n p (Some c) = (c < n) × (p c ≡ true) × ((e : ℕ) → e < c → p e ≡ false)
 Lowest n p None = (c : ℕ) → c < n → p c ≡ false
 
-below_next : (p : ℕ → Bool) (n : ℕ) → ((c : ℕ) → c < n → p c ≡ false) → (b : Bool) → p n ≡ b → Lowest (suc n) p (cond b (Some n) None)
-below_next p n none true e = (omega arith, e, none)
-below_next p n none false e = λ c h. ⊎_elim (λ (s : c ≡ n). subst (λ (x : ℕ). p x ≡ false) (sym s) e) (λ (ne : c ≡ n → ⊥). none c (omega arith)) (cases_eq c n)
-
-lowest_next : (p : ℕ → Bool) (n : ℕ) (o : Option ℕ) → Lowest n p o → Lowest (suc n) p (or_else o (cond (p n) (Some n) None))
-lowest_next p n (Some c) (h, e, none) = (omega arith, e, none)
-lowest_next p n None none = below_next p n none (p n) refl
-
-lowest_is : (n : ℕ) (p : ℕ → Bool) → Lowest n p (lowest n p)
-lowest_is zero p = λ c h. let none : ⊥ = omega arith in absurd none
-lowest_is (suc n) p = lowest_next p n (lowest n p) (lowest_is n p)
+lowest_is : (n : ℕ) (p : ℕ → Bool) → Lowest n p (lowest p 0 n)
+lowest_is n p =
+    ⊎_elim
+    (λ (e : lowest p 0 n ≡ None). subst (Lowest n p) (sym e) (λ c h. lowest_none p 0 n c e (omega arith) (omega arith)))
+    (λ (f : (t : ℕ) × (lowest p 0 n ≡ Some t)).
+    let r = lowest_some p 0 n f.0 f.1 in
+    subst (Lowest n p) (sym f.1) (omega (arith, r.1), r.0, (λ e h. lowest-first p 0 n f.0 e f.1 (omega arith) h)))
+    (option_cases (lowest p 0 n))
 
 every-at : (n : ℕ) (p : ℕ → Bool) → every n p ≡ true → (d : ℕ) → d < n → p d ≡ true
 every-at zero p e d h = let none : ⊥ = omega arith in absurd none

@@ -1,12 +1,11 @@
 -- The steps of a trim: one base of a type, and one flag.
-use Rattle.std.proofs.Common.{◌≡◌, ℕ, ◌+◌, ◌<◌, ◌≤◌, cond, eqb, ◌≢◌, List, length, get_or, take, drop, set, Some, None, Option, sym, refl, ap, ◌∙◌, subst, inl, inr, arith, below_more}
-use Rattle.std.proofs.lemmas.List.{get_or-set_same, get_or-set_other, get_or-take, length-take-le, take_more_set, drop-set-lt, drop-drop, ext_get_or}
-use Rattle.std.proofs.lemmas.List.Sums.{sum_by_push}
+use Rattle.std.proofs.Common.{◌≡◌, ℕ, ◌+◌, ◌<◌, ◌≤◌, ◌≢◌, List, length, get_or, take, drop, set, Some, None, Option, sym, refl, ap, ◌∙◌, subst, inl, inr, arith, below_more}
+use Rattle.std.proofs.lemmas.List.{get_or-set_same, get_or-set_other, get_or-take, length-take-le, drop-set-lt, drop-drop, ext_get_or}
 use Rattle.std.proofs.lemmas.Bool.Decides.{nat_tests}
 use Rattle.descent.specs.declared.link.Link.{Link}
-use Rattle.descent.specs.Answers.{Same, Agree}
-use Rattle.descent.specs.Links.{no_link, Linked, Within}
-use Rattle.descent.specs.Trims.{Implied, Rival, Flag, Flagged, ones, stray_link_refusal, trim_refusal}
+use Rattle.descent.specs.Answers.{Same, Agree, Keeps}
+use Rattle.descent.specs.Links.{no_link, Within}
+use Rattle.descent.specs.Trims.{Implied, Flag, Flagged, stray_link_refusal, trim_refusal}
 use Rattle.descent.specs.Refusals.{stray_end}
 use Rattle.descent.specs.declared.refusal.Refusal.{Refusal}
 use Rattle.descent.proofs.Strays.{within_from_no_stray}
@@ -14,26 +13,16 @@ use Rattle.descent.proofs.Strays.{within_from_no_stray}
 pub same_trans : (R S U : ℕ → ℕ → Type 0) → Same R S → Same S U → Same R U
 same_trans R S U p q a b = ((λ h. (q a b).0 ((p a b).0 h)), (λ h. (p a b).1 ((q a b).1 h)))
 
+pub keeps_trans : {S : Type 0} (count : S → ℕ) (relates : S → ℕ → ℕ → Type 0) (s t u : S) → Keeps count relates s t → Keeps count relates t u → Keeps count relates s u
+keeps_trans count relates s t u p q = record {
+  same_count = q.same_count ∙ p.same_count;
+  same_relation = same_trans (relates u) (relates t) (relates s) q.same_relation p.same_relation;
+}
+
 -- none of the first i links leads to another base of the link's type that is related to its end
 abbrev pub Unimplied : List Link → (ℕ → ℕ → Type 0) → Link → ℕ → Type 0
 Unimplied links R link i =
     (k : ℕ) → k < i → (get_or links k no_link).from ≡ link.from → ((get_or links k no_link).to ≡ link.to → ⊥) → R (get_or links k no_link).to link.to → ⊥
-
-module _ (links : List Link) (R : ℕ → ℕ → Type 0) (link : Link) (i : ℕ) (within : i < length links) (old : Unimplied links R link i) where
-  pub unimplied_more : (Rival links i link → R (get_or links i no_link).to link.to → ⊥) → Unimplied links R link (i + 1)
-  unimplied_more unrelated =
-      below_more (λ k. (get_or links k no_link).from ≡ link.from → ((get_or links k no_link).to ≡ link.to → ⊥) → R (get_or links k no_link).to link.to → ⊥) i old
-      (λ from to r. unrelated (from, to, (λ l. earlier from to r l)) r)
-    where
-      earlier : (get_or links i no_link).from ≡ link.from → ((get_or links i no_link).to ≡ link.to → ⊥) → R (get_or links i no_link).to link.to
-          → Linked (take i links) (get_or links i no_link).from (get_or links i no_link).to → ⊥
-      earlier from to r l =
-          let j = l.0 in
-          let below : j < i = omega (arith, l.1, length-take-le i links (omega arith)) in
-          let same : get_or (take i links) j no_link ≡ get_or links j no_link = get_or-take i links j no_link below in
-          let starts : (get_or links j no_link).from ≡ (get_or links i no_link).from = ap (λ (x : Link). x.from) (sym same) ∙ l.2 in
-          let ends : (get_or links j no_link).to ≡ (get_or links i no_link).to = ap (λ (x : Link). x.to) (sym same) ∙ l.3 in
-          old j below (starts ∙ from) (λ e. to (sym ends ∙ e)) (subst (λ (w : ℕ). R w link.to) (sym ends) r)
 
 module _ (links : List Link) (R : ℕ → ℕ → Type 0) (flags : List ℕ) (i v : ℕ) (room : i < length flags) where
   pub flagged_more : Flagged links R i flags → Flag v (Implied links R (get_or links i no_link)) → Flagged links R (i + 1) (set flags i v)
@@ -42,13 +31,6 @@ module _ (links : List Link) (R : ℕ → ℕ → Type 0) (flags : List ℕ) (i 
       (λ k l. let ne : k ≢ i = omega arith in
       subst (λ (f : ℕ). Flag f (Implied links R (get_or links k no_link))) (sym (get_or-set_other flags i k v 0 ne)) (old k l))
       (subst (λ (f : ℕ). Flag f (Implied links R (get_or links i no_link))) (sym (get_or-set_same flags i v 0 room)) here)
-
-  pub ones_more : Flag v (Implied links R (get_or links i no_link)) → ones (take i flags) + v ≡ ones (take (i + 1) (set flags i v))
-  ones_more here = ap (λ (x : ℕ). ones (take i flags) + x) (bit here) ∙ sym (sum_by_push (λ x. cond (eqb x 1) 1 0) (take i flags) v) ∙ ap ones (sym (take_more_set flags i v room))
-    where
-      bit : Flag v (Implied links R (get_or links i no_link)) → v ≡ cond (eqb v 1) 1 0
-      bit (inl (e, _)) = rw e
-      bit (inr (e, _)) = rw e
 
   pub rest_more : (start : List ℕ) → drop i flags ≡ drop i start → drop (i + 1) (set flags i v) ≡ drop (i + 1) start
   rest_more start e = drop-set-lt (i + 1) flags i v (omega arith) ∙ sym (drop-drop 1 i flags) ∙ ap (λ (x : List ℕ). drop 1 x) e ∙ drop-drop 1 i start
@@ -60,10 +42,6 @@ unheld_of_flag v e (inr (_, none)) = none
 pub flag_of_unheld : {P : Type 0} (v : ℕ) → (P → ⊥) → Flag v P → v ≡ 1
 flag_of_unheld v none (inl (_, p)) = absurd (none p)
 flag_of_unheld v none (inr (e, _)) = e
-
-pub flag_bit : {P : Type 0} (v : ℕ) → Flag v P → v ≤ 1
-flag_bit v (inl (e, _)) = omega arith
-flag_bit v (inr (e, _)) = omega arith
 
 pub implied_like : (links : List Link) (R S : ℕ → ℕ → Type 0) (link : Link) → ((a b : ℕ) → R a b → S a b) → Implied links R link → Implied links S link
 implied_like links R S link to (w, l, other, r) = (w, l, other, to w link.to r)

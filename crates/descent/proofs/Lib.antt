@@ -2,6 +2,7 @@ pub mod Descents
 pub mod Strays
 pub mod Flagging
 pub mod Bases
+pub mod Lowest
 pub mod Finite
 pub mod Closures
 pub mod Ranks

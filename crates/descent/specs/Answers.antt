@@ -21,6 +21,11 @@ pub record Laws {S : Type 0} (count : S → ℕ) (relates : S → ℕ → ℕ �
   pub reflexive : (s : S) (a : ℕ) → a < count s → relates s a a
   pub transitive : (s : S) (a b c : ℕ) → relates s a b → relates s b c → relates s a c
 
+-- an answerer that was asked has the number of types and the relation that it had before
+pub record Keeps {S : Type 0} (count : S → ℕ) (relates : S → ℕ → ℕ → Type 0) (before after : S) : Type 0 where
+  pub same_count : count after ≡ count before
+  pub same_relation : Same (relates after) (relates before)
+
 -- what a question about a and b answers, where there are n types: a refusal for the first number that is not below n, else the relation
 abbrev pub Answers : ℕ → (ℕ → ℕ → Type 0) → ℕ → ℕ → Result Bool Refusal → Type 0
 Answers n R a b (Ok holds) = (question_refusal n a b ≡ None) × Tells holds (R a b)

@@ -1,5 +1,6 @@
 -- Descent, flags and the nearest common base, computed.
-use Rattle.std.specs.Prelude.{ℕ, zero, suc, ◌<◌, Bool, true, false, cond, not, ◌&&◌, ◌||◌, List, [], ◌∷◌, map, Some, None, Decides, Option, ◌==◌}
+use Rattle.std.specs.Prelude.{ℕ, zero, suc, ◌<◌, Bool, true, cond, not, ◌&&◌, ◌||◌, List, [], ◌∷◌, map, Decides, Option, ◌==◌, find}
+use Rattle.std.specs.List.{range_with_len, list_any}
 use Rattle.descent.specs.declared.link.Link.{Link}
 
 -- by no links each number descends from itself alone; one more link joins what leads to its start with what its end leads to
@@ -13,8 +14,7 @@ Computes n holds R = (a b : ℕ) → a < n → b < n → Decides (holds a b) (R 
 
 -- some link of the list leads from a to another number than b that is related to b
 abbrev pub implied : List Link → (ℕ → ℕ → Bool) → ℕ → ℕ → Bool
-implied [] R a b = false
-implied (link ∷ links) R a b = (link.from == a && (not (link.to == b) && R link.to b)) || implied links R a b
+implied links R a b = list_any (λ link. link.from == a && (not (link.to == b) && R link.to b)) links
 
 abbrev pub flags : List Link → (ℕ → ℕ → Bool) → List ℕ
 flags links R = map (λ (link : Link). cond (implied links R link.from link.to) 0 1) links
@@ -24,15 +24,9 @@ abbrev pub every : ℕ → (ℕ → Bool) → Bool
 every zero p = true
 every (suc n) p = p n && every n p
 
--- the first of two that is there
-abbrev pub or_else : Option ℕ → Option ℕ → Option ℕ
-or_else (Some k) next = Some k
-or_else None next = next
-
--- the lowest number below n of which the test holds
-abbrev pub lowest : ℕ → (ℕ → Bool) → Option ℕ
-lowest zero p = None
-lowest (suc n) p = or_else (lowest n p) (cond (p n) (Some n) None)
+-- the lowest that passes the test, of the m numbers from t on
+abbrev pub lowest : (ℕ → Bool) → ℕ → ℕ → Option ℕ
+lowest test t m = find test (range_with_len t m)
 
 abbrev pub common : (ℕ → ℕ → Bool) → ℕ → ℕ → ℕ → Bool
 common R a b c = R a c && R b c
@@ -42,4 +36,4 @@ abbrev pub near : ℕ → (ℕ → ℕ → Bool) → ℕ → ℕ → ℕ → Boo
 near n R a b c = common R a b c && every n (λ d. not (common R a b d && R d c) || R c d)
 
 abbrev pub nearest : ℕ → (ℕ → ℕ → Bool) → ℕ → ℕ → Option ℕ
-nearest n R a b = lowest n (near n R a b)
+nearest n R a b = lowest (near n R a b) 0 n

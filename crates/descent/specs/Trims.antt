@@ -1,5 +1,5 @@
 -- Trimming: the flag of each link, from a relation alone.
-use Rattle.std.specs.Prelude.{◌≡◌, ℕ, ◌<◌, cond, ◌⊎◌, List, length, get_or, take, drop, Some, None, Ok, Err, count_by, Option, Result, ◌≢◌, nat_eq, nat_lt, slice_index, slice_index_or}
+use Rattle.std.specs.Prelude.{◌≡◌, ℕ, ◌<◌, cond, ◌⊎◌, List, length, take, drop, Some, None, Ok, Err, count_by, Option, Result, ◌≢◌, nat_eq, nat_lt, slice_index, slice_index_or}
 use Rattle.descent.specs.declared.link.Link.{Link}
 use Rattle.descent.specs.declared.refusal.Refusal.{Refusal}
 use Rattle.descent.specs.declared.refusal.Refusal.TheVariants.{NotBelow, ShortFlags}
@@ -10,12 +10,9 @@ use Rattle.descent.specs.Refusals.{stray_end}
 abbrev pub Implied : List Link → (ℕ → ℕ → Type 0) → Link → Type 0
 Implied links R link = (w : ℕ) × Linked links link.from w × (w ≢ link.to) × R w link.to
 
--- the k-th link is the first with its ends, and leads to another base of the type where `link` starts
-abbrev pub Rival : List Link → ℕ → Link → Type 0
-Rival links k link =
-    ((get_or links k no_link).from ≡ link.from)
-    × ((get_or links k no_link).to ≢ link.to)
-    × (Linked (take k links) (get_or links k no_link).from (get_or links k no_link).to → ⊥)
+-- the other link leads to another base of the type where `link` starts, and is none of the earlier ones
+abbrev pub Rival : List Link → Link → Link → Type 0
+Rival earlier other link = (other.from ≡ link.from) × (other.to ≢ link.to) × (Linked earlier other.from other.to → ⊥)
 
 -- 0 where P holds, 1 where it does not
 abbrev pub Flag : ℕ → Type 0 → Type 0

@@ -1,6 +1,6 @@
 // The interface through which anybody asks whether a type descends from another.
 ghost use Rattle.std.specs.Prelude.{◌≡◌, ℕ, ◌<◌};
-ghost use Rattle.descent.specs.Answers.{Same, Laws, Answers, Tells};
+ghost use Rattle.descent.specs.Answers.{Laws, Keeps, Answers, Tells};
 ghost use Rattle.descent.specs.Refusals.{Refuses, question_refusal};
 
 use crate::refusal::Refusal;
@@ -23,8 +23,7 @@ pub trait Answerer {
 
     /// Whether `a` is related to `b`; refused where one of them is not below the number of types.
     fn related(&mut self, a: u16, b: u16) -> Result<bool, Refusal>
-        ensures count { count self.new ≡ count self.old }
-        ensures relation { Same (relates self.new) (relates self.old) }
+        ensures kept { Keeps count relates self.old self.new }
         ensures answer { Answers (count self.old) (relates self.old) a b result };
 }
 
@@ -45,12 +44,8 @@ pub fn check_question(types: u16, a: u16, b: u16) -> Result<(), Refusal>
 pub fn ask<A: Answerer>(answerer: &mut A, a: u16, b: u16) -> bool
     requires first { a < A.count answerer.old }
     requires second { b < A.count answerer.old }
-    ensures count { A.count answerer.new ≡ A.count answerer.old }
-    ensures relation { Same (A.relates answerer.new) (A.relates answerer.old) }
+    ensures kept { Keeps A.count A.relates answerer.old answerer.new }
     ensures answer { Tells result (A.relates answerer.old a b) }
 {
-    match answerer.related(a, b) {
-        Ok(holds) => holds,
-        Err(_) => unreachable(),
-    }
+    answerer.related(a, b).unwrap()
 }

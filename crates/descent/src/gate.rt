@@ -60,12 +60,7 @@ impl<'l, A: Answerer> Answerer for Gate<'l, A> {
     ghost laws = { gate_laws (λ s. s.below) (λ s. s.levels.now) A.Answerer.laws };
 
     fn types(&self) -> u16 {
-        let types = self.below.types();
-        if self.levels.len() < types as usize {
-            self.levels.len() as u16
-        } else {
-            types
-        }
+        self.levels.len().min(self.below.types() as usize) as u16
     }
 
     fn related(&mut self, a: u16, b: u16) -> Result<bool, Refusal> {

@@ -74,8 +74,7 @@ impl Refusal {
 
 impl fmt::Display for Refusal {
     fn fmt<W: fmt::Write>(&self, f: &mut fmt::Formatter<W>) -> fmt::Result {
-        let Report { number, values: _ } = self.report();
-        write!(f, "refusal {number}: ")?;
+        write!(f, "refusal {}: ", self.report().number)?;
         match *self {
             Refusal::NotBelow { number, types } => write!(
                 f,

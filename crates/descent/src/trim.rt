@@ -1,6 +1,6 @@
 // Trimming: which links the others make needless.
 ghost use Rattle.std.specs.Prelude.{◌≡◌, ◌<◌, length};
-ghost use Rattle.descent.specs.Answers.{Same, Tells};
+ghost use Rattle.descent.specs.Answers.{Keeps, Tells};
 ghost use Rattle.descent.specs.Links.{Linked, Within};
 ghost use Rattle.descent.specs.Refusals.{Refuses};
 ghost use Rattle.descent.specs.Trims.{Implied, Flag, Rival, Trimmed, trim_refusal};
@@ -26,37 +26,23 @@ fn check_trim(types: u16, links: &[Link], places: usize) -> Result<(), Refusal>
     Ok(())
 }
 
-// Whether a link with these ends stands in the list.
-fn occurs(links: &[Link], sought: Link) -> bool
-    ensures { Tells result (Linked links.now sought.from sought.to) }
+// Whether the other link leads to another base of the type where `link` starts, and is none of the earlier ones.
+fn is_rival(earlier: &[Link], other: Link, link: Link) -> bool
+    ensures { Tells result (Rival earlier.now other link) }
 {
-    for link in links {
-        if link.from == sought.from && link.to == sought.to {
-            return true;
-        }
-    }
-    false
-}
-
-// Whether the link at `k` is the first of the list with its ends, and leads to another base of the type where `link` starts.
-fn is_rival(links: &[Link], k: usize, link: Link) -> bool
-    requires { k < length links.now }
-    ensures { Tells result (Rival links.now k link) }
-{
-    let other = links[k];
-    other.from == link.from && other.to != link.to && !occurs(&links[0..k], other)
+    other.from == link.from && other.to != link.to && !earlier.contains(&other)
 }
 
 // The flag of a link: 0 where another base of its type is related to its end, else 1. Each base is asked about once.
+// A number and no `bool`: so it stands in the host's table.
 fn flag<A: Answerer>(links: &[Link], answerer: &mut A, link: Link) -> u16
     requires links { Within links.now (A.count answerer.old) }
     requires link { link.to < A.count answerer.old }
-    ensures count { A.count answerer.new ≡ A.count answerer.old }
-    ensures relation { Same (A.relates answerer.new) (A.relates answerer.old) }
+    ensures kept { Keeps A.count A.relates answerer.old answerer.new }
     ensures flag { Flag result (Implied links.now (A.relates answerer.old) link) }
 {
     for (k, other) in links.iter().enumerate() {
-        if is_rival(links, k, link) && ask(answerer, other.to, link.to) {
+        if is_rival(&links[..k], *other, link) && ask(answerer, other.to, link.to) {
             return 0;
         }
     }
@@ -71,16 +57,14 @@ pub fn trim<A: Answerer>(
     answerer: &mut A,
     flags: &mut [u16],
 ) -> Result<usize, Refusal>
-    ensures count { A.count answerer.new ≡ A.count answerer.old }
-    ensures relation { Same (A.relates answerer.new) (A.relates answerer.old) }
+    ensures kept { Keeps A.count A.relates answerer.old answerer.new }
     ensures trimmed { Trimmed links.now (A.count answerer.old) (A.relates answerer.old) flags.old flags.new result }
 {
     check_trim(answerer.types(), links, flags.len())?;
-    let mut ones = 0;
+    // By place, since a zip with `flags.iter_mut()` leaves the goal of `trimmed` open: it says nothing of the flags afterwards.
     for (i, link) in links.iter().enumerate() {
-        let flag = flag(links, answerer, *link);
-        flags[i] = flag;
-        ones += flag as usize;
+        flags[i] = flag(links, answerer, *link);
     }
-    Ok(ones)
+    let written = &flags[..links.len()];
+    Ok(written.iter().filter(|flag| **flag == 1).count())
 }

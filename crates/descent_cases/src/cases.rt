@@ -1,6 +1,8 @@
 // One case: a walk, a pile over it, what is asked of the pile, and the marks that come back.
 use crate::asked::Asked;
-use crate::numbers::{Numbers, filled};
+use crate::numbers::{links, list};
+use crate::shape::Shape;
+use case_numbers::Numbers;
 use descent::answerer::Answerer;
 use descent::gate::Gate;
 use descent::nearest::nearest;
@@ -12,13 +14,13 @@ use walk::walk::Walk;
 // What a mark or a flag place holds before.
 const OLD: u16 = 7;
 
-pub fn run_case(rt: &HostRuntime, numbers: &mut Numbers) -> anyhow::Result<()> {
+pub fn run_case(rt: &HostRuntime, numbers: &mut Numbers<u16>) -> anyhow::Result<()> {
     let types = numbers.next()?;
-    let marks = filled(rt.alloc(), numbers.next()?, OLD)?;
-    let links = numbers.links(rt.alloc())?;
-    let shape = numbers.next()?;
-    let low = numbers.list(rt.alloc())?;
-    let high = numbers.list(rt.alloc())?;
+    let marks = vec![in rt.alloc(); OLD; numbers.next()? as usize]?;
+    let links = links(rt.alloc(), numbers)?;
+    let shape = Shape::from(numbers.next()?);
+    let low = list(rt.alloc(), numbers)?;
+    let high = list(rt.alloc(), numbers)?;
     match Walk::new(&links, marks, types) {
         Ok(walk) => {
             let walk = run_pile(rt, walk, shape, &low, &high, numbers)?;
@@ -35,44 +37,36 @@ pub fn run_case(rt: &HostRuntime, numbers: &mut Numbers) -> anyhow::Result<()> {
 fn run_pile<'w>(
     rt: &HostRuntime,
     walk: Walk<'w>,
-    shape: u16,
+    shape: Shape,
     low: &[u16],
     high: &[u16],
-    numbers: &mut Numbers,
+    numbers: &mut Numbers<u16>,
 ) -> anyhow::Result<Walk<'w>> {
     match shape {
-        0 => run_all(rt, walk, numbers),
-        1 => run_gated(rt, walk, low, numbers),
-        2 => Ok(run_all(rt, Opposite::new(walk), numbers)?.into_below()),
-        3 => match Gate::new(walk, low) {
-            Ok(gate) => Ok(
-                run_gated(rt, Opposite::new(gate), high, numbers)?
-                    .into_below()
-                    .into_below(),
-            ),
-            Err(back) => {
-                say_refusal(rt, back.refusal)?;
-                Ok(back.given)
-            }
-        },
-        _ => match Gate::new(walk, low) {
-            Ok(gate) => Ok(run_gated(rt, gate, high, numbers)?.into_below()),
-            Err(back) => {
-                say_refusal(rt, back.refusal)?;
-                Ok(back.given)
-            }
-        },
+        Shape::Walk => run_all(rt, walk, numbers),
+        Shape::Gate => run_gated(rt, walk, low, |gate| run_all(rt, gate, numbers)),
+        Shape::Opposite => Ok(run_all(rt, Opposite::new(walk), numbers)?.into_below()),
+        Shape::GateOppositeGate => run_gated(rt, walk, low, |gate| {
+            let pile = Opposite::new(gate);
+            Ok(run_gated(rt, pile, high, |gate| run_all(rt, gate, numbers))?.into_below())
+        }),
+        Shape::TwoGates => run_gated(rt, walk, low, |gate| {
+            run_gated(rt, gate, high, |gate| run_all(rt, gate, numbers))
+        }),
     }
 }
 
-fn run_gated<P: Answerer + Drop>(
+// Puts a gate over what stands, runs what is asked of it, and takes the gate off.
+fn run_gated<'l, P: Answerer + Drop, F: FnOnce(Gate<'l, P>) -> anyhow::Result<Gate<'l, P>>>(
     rt: &HostRuntime,
     below: P,
-    levels: &[u16],
-    numbers: &mut Numbers,
-) -> anyhow::Result<P> {
+    levels: &'l [u16],
+    run: F,
+) -> anyhow::Result<P>
+    requires { F.IsAlwaysCallable run }
+{
     match Gate::new(below, levels) {
-        Ok(gate) => Ok(run_all(rt, gate, numbers)?.into_below()),
+        Ok(gate) => Ok(run(gate)?.into_below()),
         Err(back) => {
             say_refusal(rt, back.refusal)?;
             Ok(back.given)
@@ -83,7 +77,7 @@ fn run_gated<P: Answerer + Drop>(
 fn run_all<P: Answerer + Drop>(
     rt: &HostRuntime,
     below: P,
-    numbers: &mut Numbers,
+    numbers: &mut Numbers<u16>,
 ) -> anyhow::Result<P> {
     let mut asked = Asked {
         below,
@@ -92,6 +86,7 @@ fn run_all<P: Answerer + Drop>(
     let count = numbers.next()?;
     for _ in 0..count {
         asked.questions = 0;
+        // A case is all numbers: 1 asks a question, 2 a trim, any other a nearest.
         match numbers.next()? {
             1 => run_question(rt, &mut asked, numbers)?,
             2 => run_trim(rt, &mut asked, numbers)?,
@@ -108,7 +103,7 @@ fn run_all<P: Answerer + Drop>(
 fn run_question<P: Answerer>(
     rt: &HostRuntime,
     asked: &mut Asked<P>,
-    numbers: &mut Numbers,
+    numbers: &mut Numbers<u16>,
 ) -> anyhow::Result<()> {
     let a = numbers.next()?;
     let b = numbers.next()?;
@@ -123,10 +118,10 @@ fn run_question<P: Answerer>(
 fn run_trim<P: Answerer>(
     rt: &HostRuntime,
     asked: &mut Asked<P>,
-    numbers: &mut Numbers,
+    numbers: &mut Numbers<u16>,
 ) -> anyhow::Result<()> {
-    let links = numbers.links(rt.alloc())?;
-    let mut flags = filled(rt.alloc(), numbers.next()?, OLD)?;
+    let links = links(rt.alloc(), numbers)?;
+    let mut flags = vec![in rt.alloc(); OLD; numbers.next()? as usize]?;
     match trim(&links, asked, &mut flags) {
         Ok(kept) => {
             let questions = asked.questions;
@@ -143,7 +138,7 @@ fn run_trim<P: Answerer>(
 fn run_nearest<P: Answerer>(
     rt: &HostRuntime,
     asked: &mut Asked<P>,
-    numbers: &mut Numbers,
+    numbers: &mut Numbers<u16>,
 ) -> anyhow::Result<()> {
     let a = numbers.next()?;
     let b = numbers.next()?;
@@ -168,12 +163,7 @@ fn say_refusal(rt: &HostRuntime, refusal: Refusal) -> anyhow::Result<()> {
 // How many marks there are, and how many are not 0.
 fn say_marks(rt: &HostRuntime, marks: &[u16]) -> anyhow::Result<()> {
     let places = marks.len();
-    let mut left = 0usize;
-    for mark in marks {
-        if *mark != 0 {
-            left = left.saturating_add(1);
-        }
-    }
+    let left = marks.iter().filter(|mark| **mark != 0).count();
     println!(rt; "marks: {left} of {places}")?;
     Ok(())
 }

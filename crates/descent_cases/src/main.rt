@@ -5,14 +5,15 @@
 mod asked;
 mod cases;
 mod numbers;
+mod shape;
 
+use case_numbers::Numbers;
 use cases::run_case;
-use numbers::Numbers;
 use std::io::{BufRead, BufReader};
 
 fn main(rt: HostRuntime) -> anyhow::Result<()> {
     for line in BufReader::new(rt.alloc(), rt.stdin())?.lines(rt.alloc()) {
-        let mut numbers = Numbers::read(rt.alloc(), line?.as_str())?;
+        let mut numbers = Numbers::read(rt.alloc(), line?.split_whitespace())?;
         run_case(&rt, &mut numbers)?;
     }
     Ok(())

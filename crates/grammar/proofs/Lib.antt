@@ -1,3 +1,3 @@
 pub mod Steps
-pub mod Outer
-pub mod Declared
+pub mod Leading
+pub mod Comments

@@ -1,6 +1,5 @@
 -- What the readers of declarations answer, against the outcome of reading the line.
-use Rattle.std.specs.Prelude.{◌≡◌, List, [], ◌∷◌, ◌++◌, map, Some, None, Ok, Err, vec_items, Option, Result, Vec}
-use Rattle.std.specs.declared.alloc.Global.{Global}
+use Rattle.std.specs.Prelude.{◌≡◌, List, [], ◌∷◌, map, Some, None, Ok, Err, vec_items, Option, Result}
 use Rattle.grammar.specs.declared.declaration.Name.{Name}
 use Rattle.grammar.specs.declared.declaration.Declaration.{Declaration}
 use Rattle.grammar.specs.declared.declaration.Unread.{Unread}
@@ -24,7 +23,3 @@ abbrev pub Reads : {A : Type 0} → (A → List Named) → Outcome → Result A 
 Reads names_in o (Ok a) = o ≡ lawful (names_in a)
 Reads names_in o (Err (Unlawful fault)) = o ≡ unlawful fault
 Reads names_in o (Err NoMemory) = Unit {0}
-
--- the names of bases that stand after others
-abbrev pub with_bases : List Named → Vec Name Global → List Named
-with_bases ns bases = ns ++ map name_of (vec_items bases)

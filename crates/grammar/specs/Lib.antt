@@ -4,4 +4,5 @@ pub mod Grammar
 pub mod Reading
 pub mod Posts
 pub mod Declarations
+pub mod Bases
 pub mod Worked

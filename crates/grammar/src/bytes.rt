@@ -1,5 +1,5 @@
 // Bytes by the part that they may play in a line.
-ghost use Rattle.std.specs.Prelude.{◌≡◌, slice_index};
+ghost use Rattle.std.specs.Prelude.{◌≡◌};
 ghost use Rattle.grammar.specs.Bytes.{begins, continues, printable};
 
 pub(crate) fn is_word_start(b: u8) -> bool
@@ -18,11 +18,4 @@ pub(crate) fn is_printable(b: u8) -> bool
     ensures { result ≡ printable b }
 {
     b >= b' ' && b <= b'~'
-}
-
-// The byte at `i`; 0, which the grammar has nowhere, past the end.
-pub(crate) fn byte_at(s: &[u8], i: usize) -> u8
-    ensures { result ≡ slice_index s.now i }
-{
-    if i < s.len() { s[i] } else { 0 }
 }

@@ -1,14 +1,13 @@
 // What a lawful line declares, read out of it.
-ghost use Rattle.std.specs.Prelude.{◌≡◌, ℕ, ◌≤◌, List, length};
-ghost use Rattle.grammar.specs.Grammar.{Named};
-ghost use Rattle.grammar.specs.Reading.{first as first_part, base as base-part, fresh, in_name, nothing, reading};
-ghost use Rattle.grammar.specs.Posts.{onward, recalled};
-ghost use Rattle.grammar.specs.Declarations.{names_of, all_names_of, with_bases, Reads};
+ghost use Rattle.std.specs.Prelude.{◌≡◌};
+ghost use Rattle.grammar.specs.Reading.{first, fresh, in_name, nothing, reading};
+ghost use Rattle.grammar.specs.Posts.{onward};
+ghost use Rattle.grammar.specs.Declarations.{names_of, all_names_of, Reads};
 ghost use Rattle.grammar.specs.declared.declaration.Unread.TheVariants.{Unlawful, NoMemory};
 
+use crate::bases::names_of;
 use crate::fault::Fault;
-use crate::line::{after_base, after_first, check_comment};
-use crate::name::name;
+use crate::line::check_comment;
 use std::alloc::{AllocError, AllocFailed, Global};
 
 /// A name of a line: the column of its first byte, counted from 1, and the bytes to keep.
@@ -48,45 +47,16 @@ impl<T: Drop> From<AllocFailed<T>> for Unread {
     }
 }
 
-// The bases from `start` on.
-fn read_bases<'t>(heap: Global, s: &'t [u8], start: usize) -> Result<Vec<Name<'t>>, Unread>
-    requires within { start ≤ length s.now }
-    ensures { (ns : List Named) → Reads (with_bases ns) (onward s.now start (in_name base-part fresh 0) (recalled s.now ns start start)) result }
-{
-    let mut bases = Vec::new(heap);
-    let mut pos = start;
-    loop {
-        let end = name(s, pos, pos, 0)?;
-        bases.push(Name {
-            column: pos + 1,
-            bytes: &s[pos..end],
-        })?;
-        match after_base(s, end)? {
-            Some(next) => pos = next,
-            None => return Ok(bases),
-        }
-    }
-}
-
 // A line that begins with a name.
-fn read_declaration<'t>(heap: Global, s: &'t [u8]) -> Result<Declaration<'t>, Unread>
-    ensures { Reads names_of (onward s.now 0 (in_name first_part fresh 0) nothing) result }
+fn read_declaration<'t>(heap: Global, line: &'t [u8]) -> Result<Declaration<'t>, Unread>
+    ensures { Reads names_of (onward line.now 0 (in_name first fresh 0) nothing) result }
 {
-    let end = name(s, 0, 0, 0)?;
-    let name = Name {
-        column: 1,
-        bytes: &s[0..end],
-    };
-    match after_first(s, end)? {
-        Some(start) => {
-            let bases = read_bases(heap, s, start)?;
-            Ok(Declaration { name, bases })
-        }
-        None => Ok(Declaration {
-            name,
-            bases: Vec::new(heap),
-        }),
+    let (name, rest) = names_of(line)?;
+    let mut bases = Vec::new(heap);
+    for base in rest {
+        bases.push(base?)?;
     }
+    Ok(Declaration { name, bases })
 }
 
 /// What a line declares, or none where it is empty or a comment; or else why it was not read.

@@ -26,6 +26,7 @@ pub struct Fault {
 
 impl Rule {
     /// The number of the refusal of a line that breaks the rule.
+    // A method and no `From`: its name says that the number is that of a refusal.
     pub fn number(self) -> u8
         ensures { result ≡ rule_number self }
     {
@@ -40,11 +41,11 @@ impl Rule {
 
 impl fmt::Display for Rule {
     fn fmt<W: fmt::Write>(&self, f: &mut fmt::Formatter<W>) -> fmt::Result {
-        match self {
-            Rule::Printable => f.write_str("a byte is not from 32 to 126"),
-            Rule::Brackets => f.write_str("a bracket is not closed, not open, or a ninth one open"),
-            Rule::Length => f.write_str("a name has more than 64 bytes"),
-            Rule::Grammar => f.write_str("the grammar has no place for this"),
-        }
+        f.write_str(match self {
+            Rule::Printable => "a byte is not from 32 to 126",
+            Rule::Brackets => "a bracket is not closed, not open, or a ninth one open",
+            Rule::Length => "a name has more than 64 bytes",
+            Rule::Grammar => "the grammar has no place for this",
+        })
     }
 }

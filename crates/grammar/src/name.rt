@@ -1,10 +1,14 @@
 // Names as text. A name's arguments are names, so the two readers call each other; each goes on to the end of what
-// it reads, or stops at the line's fault. `from` is where the outermost name began, `depth` how many brackets are open.
-ghost use Rattle.std.specs.Prelude.{◌≡◌, ℕ, suc, ◌+◌, ◌<◌, ◌≤◌, length};
-ghost use Rattle.grammar.specs.Posts.{WordRead, NameRead};
+// it reads, or stops at the line's fault.
+ghost use Rattle.std.specs.Prelude.{◌≡◌, ◌-◌, ◌<◌, ◌≤◌, List, length, IsTrue, MatchOption};
+ghost use Rattle.grammar.specs.Bytes.{begins, continues};
+ghost use Rattle.grammar.specs.Grammar.{Named};
+ghost use Rattle.grammar.specs.Reading.{Part, fresh, in_name};
+ghost use Rattle.grammar.specs.Posts.{onward, recalled, reads, byte_of, PastRead, WordRead, NameRead};
 ghost use Rattle.grammar.specs.Posts.{misfit as fault-at};
 
-use crate::bytes::{byte_at, is_printable, is_word_byte, is_word_start};
+use crate::bytes::{is_printable, is_word_byte, is_word_start};
+use crate::cursor::Cursor;
 use crate::fault::{Fault, Rule};
 
 /// How many brackets may be open at once.
@@ -13,116 +17,124 @@ pub const MAX_OPEN: u8 = 8;
 /// How many bytes an outermost name may have.
 pub const MAX_NAME: usize = 64;
 
-// The fault at `pos`, where the grammar has no place for what stands there.
-pub(crate) fn misfit(s: &[u8], pos: usize, depth: u8) -> Fault
-    requires within { pos ≤ length s.now }
-    ensures { result ≡ fault-at s.now pos depth }
-{
-    let column = pos + 1;
-    if pos == s.len() {
-        let rule = if depth > 0 {
-            Rule::Brackets
-        } else {
-            Rule::Grammar
-        };
-        return Fault { rule, column };
-    }
-    let b = s[pos];
-    if !is_printable(b) {
-        return Fault {
-            rule: Rule::Printable,
-            column,
-        };
-    }
-    if b == b']' && depth == 0 {
-        return Fault {
-            rule: Rule::Brackets,
-            column,
-        };
-    }
-    Fault {
-        rule: Rule::Grammar,
-        column,
-    }
-}
-
-// The end of the word at `pos`.
-fn word(s: &[u8], from: usize, pos: usize, depth: u8) -> Result<usize, Fault>
-    requires from { from ≤ pos }
-    requires within { pos ≤ length s.now }
-    requires depth { depth ≤ 8 }
-    ensures { WordRead s.now from pos depth result }
-{
-    if !is_word_start(byte_at(s, pos)) {
-        return Err(misfit(s, pos, depth));
-    }
-    if pos - from >= MAX_NAME {
-        return Err(Fault {
-            rule: Rule::Length,
-            column: pos + 1,
-        });
-    }
-    let mut end = pos + 1;
-    while end < s.len() && is_word_byte(s[end]) {
-        if end - from >= MAX_NAME {
-            return Err(Fault {
-                rule: Rule::Length,
-                column: end + 1,
-            });
+impl<'t> Cursor<'t> {
+    // Where an outermost name may begin.
+    pub(crate) fn at(line: &'t [u8], pos: usize) -> Cursor<'t>
+        requires { pos ≤ length line.now }
+        ensures line { result.line ≡ line.entry }
+        ensures from { result.from ≡ pos }
+        ensures pos { result.pos ≡ pos }
+        ensures depth { result.depth ≡ 0 }
+        ensures reads { (p : Part) (ns : List Named) → reads p fresh ns result ≡ onward line.entry.now pos (in_name p fresh 0) (recalled line.entry.now ns pos pos) }
+    {
+        Cursor {
+            line,
+            from: pos,
+            pos,
+            depth: 0,
         }
-        end += 1;
     }
-    Ok(end)
-}
 
-// The end of the name at `pos`.
-#[cycle(arguments_name)]
-pub(crate) fn name(s: &[u8], from: usize, pos: usize, depth: u8) -> Result<usize, Fault>
-    requires from { from ≤ pos }
-    requires within { pos ≤ length s.now }
-    requires depth { depth ≤ 8 }
-    ensures { NameRead s.now from pos depth depth result }
-{
-    let end = word(s, from, pos, depth)?;
-    if byte_at(s, end) != b'[' {
-        return Ok(end);
+    // The byte here; none at the line's end.
+    pub(crate) fn byte(self) -> Option<u8>
+        ensures { MatchOption result (length self.entry.line.now ≤ self.entry.pos) (λ b. (self.entry.pos < length self.entry.line.now) × (b ≡ byte_of self.entry)) }
+    {
+        self.line.get(self.pos).copied()
     }
-    if depth >= MAX_OPEN {
-        return Err(Fault {
-            rule: Rule::Brackets,
-            column: end + 1,
-        });
-    }
-    if end - from >= MAX_NAME {
-        return Err(Fault {
-            rule: Rule::Length,
-            column: end + 1,
-        });
-    }
-    arguments(s, from, end + 1, depth)
-}
 
-// The end of the arguments at `pos`, past the bracket that closes them, below `depth` other brackets.
-#[cycle(arguments_name)]
-fn arguments(s: &[u8], from: usize, pos: usize, depth: u8) -> Result<usize, Fault>
-    requires from { from ≤ pos }
-    requires within { pos ≤ length s.now }
-    requires depth { depth < 8 }
-    ensures { NameRead s.now from pos (suc depth) depth result }
-{
-    let end = name(s, from, pos, depth + 1)?;
-    let after = byte_at(s, end);
-    if after != b',' && after != b']' {
-        return Err(misfit(s, end, depth + 1));
+    // The fault here, where the grammar has no place for what stands here.
+    pub(crate) fn misfit(self) -> Fault
+        ensures { result ≡ fault-at self.entry.line.now self.entry.pos self.entry.depth }
+    {
+        let rule = match self.byte() {
+            None if self.depth > 0 => Rule::Brackets,
+            None => Rule::Grammar,
+            Some(b) if !is_printable(b) => Rule::Printable,
+            Some(b']') if self.depth == 0 => Rule::Brackets,
+            Some(_) => Rule::Grammar,
+        };
+        Fault {
+            rule,
+            column: self.pos + 1,
+        }
     }
-    if end - from >= MAX_NAME {
-        return Err(Fault {
-            rule: Rule::Length,
-            column: end + 1,
-        });
+
+    // Past the byte here, so that so many brackets are open, or the limit that is passed here.
+    fn past(self, depth: u8) -> Result<Cursor<'t>, Fault>
+        requires { self.pos < length self.line.now }
+        ensures { PastRead self.entry depth result }
+    {
+        let column = self.pos + 1;
+        if depth > MAX_OPEN {
+            let rule = Rule::Brackets;
+            return Err(Fault { rule, column });
+        }
+        if self.pos - self.from >= MAX_NAME {
+            let rule = Rule::Length;
+            return Err(Fault { rule, column });
+        }
+        Ok(Cursor {
+            line: self.line,
+            from: self.from,
+            pos: self.pos + 1,
+            depth,
+        })
     }
-    if after == b']' {
-        return Ok(end + 1);
+
+    // Whether a word begins here.
+    fn begins_word(self) -> bool
+        ensures value { result ≡ begins (byte_of self.entry) }
+        ensures here { IsTrue result → self.entry.pos < length self.entry.line.now }
+    {
+        self.byte().is_some_and(is_word_start)
     }
-    arguments(s, from, end + 1, depth)
+
+    // Whether a word goes on here.
+    fn continues_word(self) -> bool
+        ensures value { result ≡ continues (byte_of self.entry) }
+        ensures here { IsTrue result → self.entry.pos < length self.entry.line.now }
+    {
+        self.byte().is_some_and(is_word_byte)
+    }
+
+    // The end of the word here.
+    fn word(self) -> Result<Cursor<'t>, Fault>
+        ensures { WordRead self.entry result }
+    {
+        if !self.begins_word() {
+            return Err(self.misfit());
+        }
+        let mut end = self.past(self.depth)?;
+        // Byte by byte: each may pass a limit, and is then the fault.
+        while end.continues_word() {
+            end = end.past(self.depth)?;
+        }
+        Ok(end)
+    }
+
+    // The end of the name here.
+    #[cycle(arguments_name)]
+    pub(crate) fn name(self) -> Result<Cursor<'t>, Fault>
+        ensures { NameRead self.entry self.entry.depth result }
+    {
+        let end = self.word()?;
+        match end.byte() {
+            Some(b'[') => end.past(end.depth + 1)?.arguments(),
+            _ => Ok(end),
+        }
+    }
+
+    // The end of the arguments here, past the bracket that closes them.
+    #[cycle(arguments_name)]
+    fn arguments(self) -> Result<Cursor<'t>, Fault>
+        requires { 0 < self.depth }
+        ensures { NameRead self.entry (self.entry.depth - 1) result }
+    {
+        let end = self.name()?;
+        match end.byte() {
+            Some(b',') => end.past(end.depth)?.arguments(),
+            Some(b']') => end.past(end.depth - 1),
+            _ => Err(end.misfit()),
+        }
+    }
 }

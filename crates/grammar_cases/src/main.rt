@@ -11,59 +11,22 @@ use texts::refusal::{Place, Source};
 use texts::text::{check_texts, faulty_line};
 use vetting::vet;
 
-fn digit(c: char) -> anyhow::Result<u8> {
-    match c.to_digit(16) {
-        Some(d) => Ok((d & 15) as u8),
-        None => Err(anyhow!("not a digit")),
-    }
-}
-
-fn bytes_of(heap: Global, hex: &str) -> anyhow::Result<Vec<u8>> {
-    let mut bytes = Vec::new(heap);
-    let mut high = None;
-    for c in hex.chars() {
-        let d = digit(c)?;
-        match high {
-            None => high = Some(d),
-            Some(h) => {
-                bytes.push((h << 4) | d)?;
-                high = None;
-            }
-        }
-    }
-    Ok(bytes)
-}
-
 fn argument(heap: Global, word: Option<&str>) -> anyhow::Result<Vec<u8>> {
-    let Some(word) = word else {
-        return Err(anyhow!("an argument is wanting"));
-    };
-    bytes_of(heap, word.strip_prefix('=').unwrap_or(word))
-}
-
-fn show_bytes(rt: &HostRuntime, bytes: &[u8]) -> anyhow::Result<()> {
-    for b in bytes {
-        print!(rt; "{}", char::from(*b))?;
-    }
-    Ok(())
+    let word = word.ok_or_else(|| anyhow!("an argument is wanting"))?;
+    Ok(hex::decode(heap, word.strip_prefix('=').unwrap_or(word))?)
 }
 
 fn show_name(rt: &HostRuntime, name: Name) -> anyhow::Result<()> {
-    let Name { column, bytes } = name;
-    print!(rt; " {column}:")?;
-    show_bytes(rt, bytes)
+    let text = str::from_utf8(name.bytes)?;
+    print!(rt; " {}:{text}", name.column)?;
+    Ok(())
 }
 
 fn show_hex(rt: &HostRuntime, line: Option<&[u8]>) -> anyhow::Result<()> {
-    let Some(bytes) = line else {
-        println!(rt; "-")?;
-        return Ok(());
-    };
-    print!(rt; "=")?;
-    for b in bytes {
-        print!(rt; "{b:02x}")?;
+    match line {
+        Some(bytes) => println!(rt; "={}", hex::encode(rt.alloc(), bytes)?)?,
+        None => println!(rt; "-")?,
     }
-    println!(rt; "")?;
     Ok(())
 }
 
@@ -72,14 +35,11 @@ fn run_line(rt: &HostRuntime, line: &[u8]) -> anyhow::Result<()> {
     let checked = check_line(line);
     match read_line(rt.alloc(), line) {
         Ok(read) => {
-            print!(rt;
-                "{}",
-                if checked.is_ok() {
-                    "lawful"
-                } else {
-                    "check_line disagrees"
-                }
-            )?;
+            let verdict = match checked {
+                Ok(()) => "lawful",
+                Err(_) => "check_line disagrees",
+            };
+            print!(rt; "{verdict}")?;
             if let Some(Declaration { name, bases }) = read {
                 show_name(rt, name)?;
                 for base in &bases {
@@ -103,11 +63,7 @@ fn run_texts(rt: &HostRuntime, shipped: &[u8], own: &[u8]) -> anyhow::Result<()>
     match check_texts(shipped, own) {
         Ok(()) => println!(rt; "lawful")?,
         Err(refusal) => {
-            let report = refusal.report();
-            print!(rt;
-                "{} {} {} {} ",
-                report.number, report.text, report.line, report.column
-            )?;
+            print!(rt; "{} ", refusal.report())?;
             show_hex(rt, faulty_line(refusal.place(), shipped, own))?;
         }
     }
@@ -121,36 +77,23 @@ fn run_at(
     shipped: &[u8],
     own: &[u8],
 ) -> anyhow::Result<()> {
-    let source = if text == "1" {
-        Source::Shipped
-    } else {
-        Source::Own
+    let place = Place {
+        source: match text {
+            "1" => Source::Shipped,
+            _ => Source::Own,
+        },
+        line: line.parse()?,
+        column: 0,
     };
-    let line = line.parse::<usize>()?;
-    show_hex(
-        rt,
-        faulty_line(
-            Place {
-                source,
-                line,
-                column: 0,
-            },
-            shipped,
-            own,
-        ),
-    )
+    show_hex(rt, faulty_line(place, shipped, own))
 }
 
 fn run_vet(rt: &HostRuntime, input: &[u8]) -> anyhow::Result<()> {
     let answer = vet(rt.alloc(), input)?;
-    for b in &answer {
-        if *b == b'\n' {
-            print!(rt; "|")?;
-        } else {
-            print!(rt; "{}", char::from(*b))?;
-        }
-    }
-    println!(rt; "")?;
+    println!(rt;
+        "{}",
+        str::from_utf8(&answer)?.replace(rt.alloc(), '\n', "|")?
+    )?;
     Ok(())
 }
 

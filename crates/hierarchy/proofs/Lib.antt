@@ -1,4 +1,3 @@
 pub mod Known
 pub mod LinkTables
-pub mod Books
 pub mod SettledTables

@@ -1,10 +1,12 @@
 -- Tables of links: one link more, and fewer links.
-use Rattle.std.proofs.Common.{◌≡◌, ℕ, ◌+◌, ◌-◌, ◌<◌, ◌≤◌, false, ◌≢◌, ◌⊎◌, List, [], ◌∷◌, ◌++◌, length, get_or, take, drop, set, replicate, sym, ap, ◌∙◌, subst, inl, inr, ⊎_elim, append_assoc, append-nil, arith, get_or-set_other}
+use Rattle.std.proofs.Common.{◌≡◌, ℕ, ◌+◌, ◌-◌, ◌<◌, ◌≤◌, false, ◌≢◌, ◌⊎◌, List, [], ◌∷◌, ◌++◌, length, get_or, take, drop, set, replicate, None, sym, ap, ◌∙◌, subst, inl, inr, ⊎_elim, arith, get_or-set_other}
 use borrow.Author.Tests.{both_ways}
-use Rattle.std.proofs.lemmas.List.{take_more_set, take_all, take_at, get_or-take, get_or_past, get_or-replicate, get_or-append_right, length-replicate, replicate_more, length-take-le, length_push, get_or_append_left, get_or_push}
+use Rattle.std.proofs.lemmas.List.{take_more_set, take_at, get_or-take, get_or_past, get_or-replicate, get_or-append_right, length-replicate, length-take-le, length_push, get_or_append_left, get_or_push}
 use Rattle.std.proofs.str.Laws.{order}
 use Rattle.descent.specs.declared.link.Link.{Link}
 use Rattle.descent.specs.Links.{no_link, link, Within}
+use Rattle.descent.specs.Refusals.{stray_end}
+use Rattle.descent.proofs.Strays.{within_from_no_stray}
 use Rattle.rows.specs.KeptEntries.{Different}
 use Rattle.hierarchy.specs.Tables.{Distinct, ZeroFrom}
 use Rattle.hierarchy.specs.Entering.{has_link, cleared}
@@ -72,22 +74,6 @@ module _ (xs : List Link) (n types a b : ℕ) (room : n < length xs) where
   pub zero_entered : ZeroFrom n xs → ZeroFrom (n + 1) (set xs n (link a b))
   zero_entered z i h = let ne : i ≢ n = omega arith in get_or-set_other xs n i (link a b) no_link ne ∙ z i (omega arith)
 
--- places set to 0 one after another
-module _ (xs ys : List Link) (start i : ℕ) where
-  pub clear_none : take start ys ≡ take start ys ++ replicate (start - start) no_link
-  clear_none = let z : start - start ≡ 0 = omega arith in sym (ap (λ k. take start ys ++ replicate k no_link) z ∙ append-nil (take start ys))
-
-  pub clear_more : i < length xs → start ≤ i → take i xs ≡ take start ys ++ replicate (i - start) no_link → take (i + 1) (set xs i no_link) ≡ take start ys ++ replicate (i + 1 - start) no_link
-  clear_more h k e =
-      let z : i - start + 1 ≡ i + 1 - start = omega arith in
-      take_more_set xs i no_link h
-      ∙ ap (λ l. l ++ (no_link ∷ [])) e
-      ∙ append_assoc (take start ys) (replicate (i - start) no_link) (no_link ∷ [])
-      ∙ ap (λ l. take start ys ++ l) (replicate_more (i - start) no_link ∙ ap (λ m. replicate m no_link) z)
-
-  pub clear_all : length xs ≡ length ys → length ys ≤ i → i ≤ length ys → take i xs ≡ take start ys ++ replicate (i - start) no_link → xs ≡ cleared start ys
-  clear_all l h k e = let z : i ≡ length ys = omega arith in sym (take_all i xs (omega arith)) ∙ e ∙ ap (λ m. take start ys ++ replicate (m - start) no_link) z
-
 pub zero_everywhere : (m i : ℕ) → get_or (replicate m no_link) i no_link ≡ no_link
 zero_everywhere m i =
     ⊎_elim
@@ -111,6 +97,20 @@ module _ (xs : List Link) (k : ℕ) (within : k ≤ length xs) where
       let at_i = at i (omega arith) in
       let at_j = at j (omega arith) in
       d i j p (omega arith) (at_i ∙ e ∙ sym at_j)
+
+-- a table of which only the first links are left
+module _ (ys xs : List Link) (k : ℕ) (within : k ≤ length xs) (e : ys ≡ cleared k xs) where
+  front : take k ys ≡ take k xs
+  front = ap (take k) e ∙ cleared_front xs k within
+
+  pub within_left : (types : ℕ) → stray_end types (take k xs) ≡ None → Within (take k ys) types
+  within_left types none = subst (λ (ls : List Link). Within ls types) (sym front) (within_from_no_stray types (take k xs) none)
+
+  pub distinct_left : (n : ℕ) → k ≤ n → n ≤ length xs → Distinct (take n xs) → Distinct (take k ys)
+  distinct_left n h m d = subst Distinct (sym front) (distinct_front xs k within n h m d)
+
+  pub zero_left : ZeroFrom k ys
+  zero_left = subst (ZeroFrom k) (sym e) (cleared_zero xs k within)
 
 -- what a table holds after a slice of all of it was written
 pub refilled_is : {X : Type 0} (xs ws s0 : List X) (n : ℕ) → length ws ≡ length s0 → length s0 ≡ n → take n (ws ++ drop (length ws) xs) ≡ ws

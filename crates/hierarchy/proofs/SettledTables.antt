@@ -26,9 +26,8 @@ use Rattle.settling.specs.declared.outcome.Unsettled.{Unsettled}
 use Rattle.settling.specs.declared.outcome.Unsettled.TheVariants.{ShortTable, Loop, ShortIndex}
 use Rattle.settling.specs.Settling.{Giving, Tables, short, SettlesAs}
 use Rattle.settling.proofs.Ranking.{whole_ranked}
-use Rattle.hierarchy.specs.SettledBooks.{sizes}
 use Rattle.hierarchy.specs.Answering.{EntriesTell, IndexAnswers, Answering}
-use Rattle.hierarchy.specs.SettledBooks.{settled_by}
+use Rattle.hierarchy.specs.SettledBooks.{tables, settled_by}
 
 -- a test that tells what another says
 agree : {P : Type 0} (x y : ℕ) (t : Bool) → (x ≤ y → P) → (P → x ≤ y) → Decides t P → leb x y ≡ t
@@ -102,21 +101,9 @@ module _ (Gives : Giving) (meaning : Decomposes Gives) (n : ℕ) (links : List L
   answering_after (Err (ShortIndex needed)) x old = tt
 
 -- tables that hold the same
-abbrev tables : List ℕ → List ℕ → List ℕ → List ℕ → List ℕ → List ℕ → List ℕ → Tables
-tables o c p k i l s = record { order = o; chain = c; position = p; kept = k; index = i; loop = l; scratch = s }
-
 pub same_tables : {o o' c c' p p' k k' i i' : List ℕ} (l s : List ℕ) → o ≡ o' → c ≡ c' → p ≡ p' → k ≡ k' → i ≡ i'
-    → ◌≡◌ {A = Tables} (record { order = o; chain = c; position = p; kept = k; index = i; loop = l; scratch = s }) (record { order = o'; chain = c'; position = p'; kept = k'; index = i'; loop = l; scratch = s })
-same_tables {o} {o'} {c} {c'} {p} {p'} {k} {k'} {i} {i'} l s a b d e f =
-    ap (λ x. tables x c p k i l s) a
-    ∙ ap (λ x. tables o' x p k i l s) b
-    ∙ ap (λ x. tables o' c' x k i l s) d
-    ∙ ap (λ x. tables o' c' p' x i l s) e
-    ∙ ap (λ x. tables o' c' p' k' x l s) f
-
-pub same_sizes : {o o' c c' p p' k k' i i' : ℕ} → o ≡ o' → c ≡ c' → p ≡ p' → k ≡ k' → i ≡ i' → sizes o c p k i ≡ sizes o' c' p' k' i'
-same_sizes {o} {o'} {c} {c'} {p} {p'} {k} {k'} {i} {i'} a b d e f =
-    ap (λ x. sizes x c p k i) a ∙ ap (λ x. sizes o' x p k i) b ∙ ap (λ x. sizes o' c' x k i) d ∙ ap (λ x. sizes o' c' p' x i) e ∙ ap (λ x. sizes o' c' p' k' x) f
+    → tables o c p k i l s ≡ tables o' c' p' k' i' l s
+same_tables l s a b d e f = cc
 
 -- what settling does to tables, it does to tables that hold the same
 pub settles_same : (Gives : Giving) (n : ℕ) (links : List Link) (r : Result Settled Unsettled) {t u t' u' : Tables} → t ≡ u → t' ≡ u' → SettlesAs Gives n links t r t' → SettlesAs Gives n links u r u'

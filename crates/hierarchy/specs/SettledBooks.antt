@@ -7,9 +7,13 @@ use Rattle.settling.specs.Settling.{Tables, Giving, SettlesAs}
 use Rattle.hierarchy.specs.Entering.{links_in}
 use Rattle.hierarchy.specs.Books.{Book, Written}
 
+-- tables that hold these entries
+abbrev pub tables : List ℕ → List ℕ → List ℕ → List ℕ → List ℕ → List ℕ → List ℕ → Tables
+tables order chain position kept index loop scratch = record { order = order; chain = chain; position = position; kept = kept; index = index; loop = loop; scratch = scratch }
+
 -- the book's tables with the loop table and the working memory of the call
 abbrev pub tables_of : Written → List ℕ → List ℕ → Tables
-tables_of w loop scratch = record { order = w.order; chain = w.chain; position = w.position; kept = w.kept; index = w.index; loop = loop; scratch = scratch }
+tables_of w loop scratch = tables w.order w.chain w.position w.kept w.index loop scratch
 
 -- whether the book is settled after an answer
 abbrev pub settled_by : Result Settled Unsettled → Option ℕ → Option ℕ

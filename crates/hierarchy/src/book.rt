@@ -5,6 +5,7 @@ ghost use Rattle.hierarchy.specs.Answering.{Answering};
 use crate::entered::Entered;
 
 /// A book of types and links by number, over tables of the host. It is settled while `chains` has the number of chains.
+/// The tables stand one by one: `Tables` has the link table too, which is part of `entered` here.
 #[derive(Drop)]
 pub struct Hierarchy {
     pub(crate) number: u32,

@@ -1,6 +1,5 @@
 // Calls on a numbered book that enter types and links, and take them back.
-ghost use Rattle.std.specs.Prelude.{◌≡◌, [], length, replicate, None, vec_len};
-ghost use Rattle.descent.specs.Links.{no_link};
+ghost use Rattle.std.specs.Prelude.{◌≡◌, vec_len};
 ghost use Rattle.hierarchy.specs.Entering.{type_answer, link_answer, back_answer};
 ghost use Rattle.hierarchy.specs.Books.{book_of, new_book, changed, with_chains, Answers, after_type, after_link, after_back};
 
@@ -8,37 +7,30 @@ use crate::book::Hierarchy;
 use crate::entered::Entered;
 use crate::entering::Entry;
 use crate::refusal::Refusal;
+use crate::tables::Tables;
 use descent::link::Link;
-use settling::wipe::{UNWRITTEN, fill};
-
-fn clear(links: &mut [Link])
-    ensures { links.new ≡ replicate (length links.old) no_link }
-{
-    for link in links.iter_mut() {
-        *link = Link { from: 0, to: 0 };
-    }
-}
+use settling::tables::UNWRITTEN;
 
 impl Hierarchy {
-    /// A book with nothing entered, over these tables, with so many places for types: sets the link table to 0 and the others to 65,535 throughout.
-    pub fn new(
-        number: u32,
-        room: usize,
-        mut links: Vec<Link>,
-        mut order: Vec<u16>,
-        mut chain: Vec<u16>,
-        mut position: Vec<u16>,
-        mut kept: Vec<u16>,
-        mut index: Vec<u16>,
-    ) -> Hierarchy
-        ensures { book_of result ≡ new_book number room (vec_len links) (vec_len order) (vec_len chain) (vec_len position) (vec_len kept) (vec_len index) }
+    /// A book with nothing entered, over these tables, with so many places for types: sets the link table to 0 and the others to
+    /// 65,535 throughout.
+    pub fn new(number: u32, room: usize, tables: Tables) -> Hierarchy
+        ensures { book_of result ≡ new_book number room (vec_len tables.links) (vec_len tables.order) (vec_len tables.chain) (vec_len tables.position) (vec_len tables.kept) (vec_len tables.index) }
     {
-        clear(&mut links);
-        fill(&mut order, UNWRITTEN);
-        fill(&mut chain, UNWRITTEN);
-        fill(&mut position, UNWRITTEN);
-        fill(&mut kept, UNWRITTEN);
-        fill(&mut index, UNWRITTEN);
+        let Tables {
+            mut links,
+            mut order,
+            mut chain,
+            mut position,
+            mut kept,
+            mut index,
+        } = tables;
+        links.fill(Link { from: 0, to: 0 });
+        order.fill(UNWRITTEN);
+        chain.fill(UNWRITTEN);
+        position.fill(UNWRITTEN);
+        kept.fill(UNWRITTEN);
+        index.fill(UNWRITTEN);
         let entered = Entered {
             room,
             types: 0,
@@ -72,13 +64,11 @@ impl Hierarchy {
         ensures answer { result ≡ link_answer (book_of self.old).held from to }
         ensures after { book_of self.new ≡ after_link (book_of self.old) from to result }
     {
-        match self.entered.enter_link(from, to)? {
-            Entry::New => {
-                self.chains = None;
-                Ok(Entry::New)
-            }
-            Entry::Known => Ok(Entry::Known),
+        let entry = self.entered.enter_link(from, to)?;
+        if entry == Entry::New {
+            self.chains = None;
         }
+        Ok(entry)
     }
 
     /// Takes back all but the first types and links, and sets the places that they give up to 0. The book is then not settled.

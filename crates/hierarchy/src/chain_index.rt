@@ -5,11 +5,12 @@ ghost use Rattle.descent.specs.Laws.{descent_laws};
 ghost use Rattle.descent.specs.Links.{Descends};
 ghost use Rattle.hierarchy.specs.Answering.{EntriesTell};
 
-use descent::answerer::Answerer;
+use descent::answerer::{Answerer, check_question};
 use descent::link::Link;
 use descent::refusal::Refusal;
 
 /// Answers from the tables: yes when the row entry of the first at the second's chain is at most the second's position.
+/// The tables have the host's lengths, so how many types and chains there are stands beside them.
 #[derive(Drop)]
 pub struct ChainIndex<'l, 'c, 'p, 'i> {
     pub(crate) types: u16,
@@ -37,13 +38,7 @@ impl<'l, 'c, 'p, 'i> Answerer for ChainIndex<'l, 'c, 'p, 'i> {
     }
 
     fn related(&mut self, a: u16, b: u16) -> Result<bool, Refusal> {
-        let types = self.types;
-        if a >= types {
-            return Err(Refusal::NotBelow { number: a, types });
-        }
-        if b >= types {
-            return Err(Refusal::NotBelow { number: b, types });
-        }
+        check_question(self.types, a, b)?;
         let row = a as usize * self.chains as usize;
         let entry = self.index[row + self.chain[b as usize] as usize];
         Ok(entry <= self.position[b as usize])

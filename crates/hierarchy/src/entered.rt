@@ -5,13 +5,14 @@ ghost use Rattle.hierarchy.specs.Tables.{Distinct, ZeroFrom};
 
 use descent::link::Link;
 
-/// How many types a book may have.
+/// How many types a book may have. `names` has the limit too: neither crate uses the other.
 pub const MOST_TYPES: u16 = 1024;
 
 /// How many links a book may have.
 pub const MOST_LINKS: usize = 8192;
 
-/// Types numbered from 0, and links between them, different from each other, at the front of their table; the rest of the table is 0.
+/// Types numbered from 0, and links between them, different from each other, at the front of their table; the rest of the table
+/// is 0. The table is the host's and keeps its length, so how many links it holds is counted beside it.
 #[derive(Drop)]
 pub struct Entered {
     pub(crate) room: usize,

@@ -1,6 +1,6 @@
 // Entering types and links, and taking them back.
-ghost use Rattle.std.specs.Prelude.{◌≡◌, ◌≤◌, length};
-ghost use Rattle.hierarchy.specs.Entering.{held_of, links_in, type_answer, with_type, has_link, link_answer, with_link, cleared, back_answer, with_back};
+ghost use Rattle.std.specs.Prelude.{◌≡◌};
+ghost use Rattle.hierarchy.specs.Entering.{held_of, links_in, type_answer, with_type, link_answer, with_link, back_answer, with_back};
 
 use crate::entered::{Entered, MOST_LINKS, MOST_TYPES};
 use crate::refusal::Refusal;
@@ -14,19 +14,14 @@ pub enum Entry {
     Known,
 }
 
-// Whether one of the links runs so.
-fn is_known(links: &[Link], from: u16, to: u16) -> bool
-    ensures { result ≡ has_link links.now from to }
-{
-    for link in links {
-        if link.from == from && link.to == to {
-            return true;
-        }
-    }
-    false
-}
-
 impl Entered {
+    /// The links that were entered.
+    pub(crate) fn links(&self) -> &[Link]
+        ensures { result.now ≡ links_in (held_of self.now) }
+    {
+        &self.links[..self.count]
+    }
+
     /// Enters one more type, and answers its number.
     pub fn enter_type(&mut self) -> Result<u16, Refusal>
         ensures answer { result ≡ type_answer (held_of self.old) }
@@ -46,39 +41,22 @@ impl Entered {
         ensures after { held_of self.new ≡ with_link (held_of self.old) from to result }
     {
         let types = self.types;
-        if from >= types {
-            return Err(Refusal::NotBelow {
-                number: from,
-                types,
-            });
+        let link = Link { from, to };
+        if let Some(number) = stray_end(&[link], types) {
+            return Err(Refusal::NotBelow { number, types });
         }
-        if to >= types {
-            return Err(Refusal::NotBelow { number: to, types });
-        }
-        let count = self.count;
-        if is_known(&self.links[0..count], from, to) {
+        if self.links().contains(&link) {
             return Ok(Entry::Known);
         }
+        let count = self.count;
         if count >= self.links.len() || count >= MOST_LINKS {
             return Err(Refusal::NoLinkPlace);
         }
-        self.links[count] = Link { from, to };
+        self.links[count] = link;
         self.count = count + 1;
         Ok(Entry::New)
     }
-}
 
-// Sets the places from `start` on to 0.
-fn clear_links(links: &mut [Link], start: usize)
-    requires within { start ≤ length links.old }
-    ensures { links.new ≡ cleared start links.old }
-{
-    for i in start..links.len() {
-        links[i] = Link { from: 0, to: 0 };
-    }
-}
-
-impl Entered {
     /// Takes back all but the first types and links, and sets the places that they give up to 0.
     pub fn take_back(&mut self, types: u16, links: usize) -> Result<(), Refusal>
         ensures answer { result ≡ back_answer (held_of self.old) types links }
@@ -87,10 +65,10 @@ impl Entered {
         if types > self.types || links > self.count {
             return Err(Refusal::NotEntered);
         }
-        if let Some(number) = stray_end(&self.links[0..links], types) {
+        if let Some(number) = stray_end(&self.links[..links], types) {
             return Err(Refusal::NotBelow { number, types });
         }
-        clear_links(&mut self.links, links);
+        self.links[links..].fill(Link { from: 0, to: 0 });
         self.types = types;
         self.count = links;
         Ok(())

@@ -29,11 +29,7 @@ impl Refusal {
         match *self {
             Refusal::NoTypePlace => 6,
             Refusal::NoLinkPlace => 8,
-            Refusal::NotBelow {
-                number: _,
-                types: _,
-            } => 16,
-            Refusal::NotEntered => 16,
+            Refusal::NotBelow { .. } | Refusal::NotEntered => 16,
         }
     }
 }

@@ -3,15 +3,18 @@ ghost use Rattle.std.specs.Prelude.{◌≡◌};
 ghost use Rattle.settling.specs.Settling.{SettlesAs};
 ghost use Rattle.hierarchy.specs.Books.{book_of};
 ghost use Rattle.hierarchy.specs.Entering.{held_of, links_in};
-ghost use Rattle.hierarchy.specs.SettledBooks.{settled_by, sizes_of, BookSettles};
+ghost use Rattle.hierarchy.specs.SettledBooks.{tables, settled_by, sizes_of, BookSettles};
 
 use crate::book::Hierarchy;
 use crate::entered::Entered;
 use chains::decomposer::Decomposer;
+use settling::graph::Graph;
 use settling::outcome::{Settled, Unsettled};
 use settling::settle::settle_tables;
+use settling::tables::Tables;
 
-// Settles what was entered over the tables.
+// Settles what was entered over the tables. They come one by one: of the `Vec`s it is not known what they hold once their
+// slices were lent in a struct.
 fn settle_entered<D: Decomposer>(
     decomposer: &D,
     entered: &Entered,
@@ -20,24 +23,25 @@ fn settle_entered<D: Decomposer>(
     position: &mut [u16],
     kept: &mut [u16],
     index: &mut [u16],
-    table: &mut [u16],
+    loop_table: &mut [u16],
     scratch: &mut [u16],
 ) -> Result<Settled, Unsettled>
-    ensures { SettlesAs (D.Decomposer.gives decomposer.now) entered.now.types (links_in (held_of entered.now)) (record { order = order.entry.now; chain = chain.old; position = position.old; kept = kept.old; index = index.old; loop = table.old; scratch = scratch.old }) result (record { order = order.exit.now; chain = chain.new; position = position.new; kept = kept.new; index = index.new; loop = table.new; scratch = scratch.new }) }
+    ensures { SettlesAs (D.Decomposer.gives decomposer.now) entered.now.types (links_in (held_of entered.now)) (tables order.old chain.old position.old kept.old index.old loop_table.old scratch.old) result (tables order.new chain.new position.new kept.new index.new loop_table.new scratch.new) }
 {
-    let links = &entered.links[0..entered.count];
-    settle_tables(
-        decomposer,
-        entered.types,
-        links,
+    let graph = Graph {
+        types: entered.types,
+        links: entered.links(),
+    };
+    let mut tables = Tables {
         order,
         chain,
         position,
         kept,
         index,
-        table,
+        loop_table,
         scratch,
-    )
+    };
+    settle_tables(decomposer, &graph, &mut tables)
 }
 
 // The number of chains of a book that is settled after the answer.
@@ -47,13 +51,13 @@ fn settled_by(answer: Result<Settled, Unsettled>, before: Option<u16>) -> Option
     match answer {
         Ok(settled) => Some(settled.chains),
         Err(Unsettled::ShortTable) => before,
-        Err(Unsettled::Loop { length: _ }) => None,
-        Err(Unsettled::ShortIndex { needed: _ }) => None,
+        Err(Unsettled::Loop { .. } | Unsettled::ShortIndex { .. }) => None,
     }
 }
 
 impl Hierarchy {
-    /// Settles the book with a loop table, working memory and a decomposer: writes the order, the chains and positions that one call of the decomposer gave, the kept entries and the rows, or says why not.
+    /// Settles the book with a loop table, working memory and a decomposer: writes the order, the chains and positions that one
+    /// call of the decomposer gave, the kept entries and the rows, or says why not.
     pub fn settle<D: Decomposer>(
         &mut self,
         decomposer: &D,

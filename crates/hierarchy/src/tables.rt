@@ -1,12 +1,13 @@
 // Read access to what a numbered book holds, and its tables given back.
 ghost use Rattle.std.specs.Prelude.{◌≡◌};
 ghost use Rattle.hierarchy.specs.Books.{book_of};
+ghost use Rattle.hierarchy.specs.Entering.{links_in};
 
 use crate::book::Hierarchy;
 use crate::entered::Entered;
 use descent::link::Link;
 
-/// The tables of a book, given back.
+/// The tables of a book, as a host gives them and gets them back.
 #[derive(Drop)]
 pub struct Tables {
     pub links: Vec<Link>,
@@ -37,6 +38,13 @@ impl Hierarchy {
         ensures { result ≡ (book_of self.now).held.count }
     {
         self.entered.count
+    }
+
+    /// The links that were entered.
+    pub fn links(&self) -> &[Link]
+        ensures { result.now ≡ links_in (book_of self.now).held }
+    {
+        self.entered.links()
     }
 
     /// The link table, whole: the links at its front, and then 0.

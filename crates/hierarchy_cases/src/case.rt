@@ -1,5 +1,6 @@
 // A book, and the tables that a settle gets besides.
-use crate::numbers::Numbers;
+use crate::numbers::{link_table, table};
+use case_numbers::Numbers;
 use hierarchy::book::Hierarchy;
 use hierarchy::tables::Tables;
 use std::alloc::Global;
@@ -15,34 +16,35 @@ pub struct Case {
 
 impl Case {
     // A book of a number, with places for types, over tables of the lengths that follow.
-    pub fn new(heap: Global, numbers: &mut Numbers) -> anyhow::Result<Case> {
+    pub fn new(heap: Global, numbers: &mut Numbers<u32>) -> anyhow::Result<Case> {
         let number = numbers.next()?;
         let room = numbers.next()? as usize;
-        let links = numbers.link_table(heap)?;
-        let order = numbers.table(heap)?;
-        let chain = numbers.table(heap)?;
-        let position = numbers.table(heap)?;
-        let kept = numbers.table(heap)?;
-        let index = numbers.table(heap)?;
-        let book = Hierarchy::new(number, room, links, order, chain, position, kept, index);
+        let tables = Tables {
+            links: link_table(heap, numbers)?,
+            order: table(heap, numbers)?,
+            chain: table(heap, numbers)?,
+            position: table(heap, numbers)?,
+            kept: table(heap, numbers)?,
+            index: table(heap, numbers)?,
+        };
         Ok(Case {
-            book,
-            table: numbers.table(heap)?,
-            scratch: numbers.table(heap)?,
+            book: Hierarchy::new(number, room, tables),
+            table: table(heap, numbers)?,
+            scratch: table(heap, numbers)?,
             looped: None,
         })
     }
 
     // Gives the next settles other tables, of the lengths that follow.
-    pub fn lend(&mut self, heap: Global, numbers: &mut Numbers) -> anyhow::Result<()> {
-        self.table = numbers.table(heap)?;
-        self.scratch = numbers.table(heap)?;
+    pub fn lend(&mut self, heap: Global, numbers: &mut Numbers<u32>) -> anyhow::Result<()> {
+        self.table = table(heap, numbers)?;
+        self.scratch = table(heap, numbers)?;
         self.looped = None;
         Ok(())
     }
 
     // A book over the tables of another, which is taken apart.
-    pub fn again(self, numbers: &mut Numbers) -> anyhow::Result<Case> {
+    pub fn again(self, numbers: &mut Numbers<u32>) -> anyhow::Result<Case> {
         let number = numbers.next()?;
         let room = numbers.next()? as usize;
         let Case {
@@ -51,17 +53,8 @@ impl Case {
             scratch,
             looped,
         } = self;
-        let Tables {
-            links,
-            order,
-            chain,
-            position,
-            kept,
-            index,
-        } = book.into_tables();
-        let book = Hierarchy::new(number, room, links, order, chain, position, kept, index);
         Ok(Case {
-            book,
+            book: Hierarchy::new(number, room, book.into_tables()),
             table,
             scratch,
             looped,

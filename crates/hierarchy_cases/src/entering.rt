@@ -1,5 +1,6 @@
 // Steps that enter types and links, and take them back.
-use crate::numbers::Numbers;
+use crate::numbers::next_type;
+use case_numbers::Numbers;
 use hierarchy::book::Hierarchy;
 use hierarchy::entering::Entry;
 use hierarchy::refusal::Refusal;
@@ -21,12 +22,12 @@ pub fn run_types(rt: &HostRuntime, book: &mut Hierarchy, count: u32) -> anyhow::
 pub fn run_links(
     rt: &HostRuntime,
     book: &mut Hierarchy,
-    numbers: &mut Numbers,
+    numbers: &mut Numbers<u32>,
 ) -> anyhow::Result<()> {
     print!(rt; "links:")?;
-    for _ in 0..numbers.pairs() {
-        let from = numbers.next_type()?;
-        let to = numbers.next_type()?;
+    for _ in 0..numbers.count() / 2 {
+        let from = next_type(numbers)?;
+        let to = next_type(numbers)?;
         match book.enter_link(from, to) {
             Ok(Entry::New) => print!(rt; " new")?,
             Ok(Entry::Known) => print!(rt; " known")?,
@@ -40,9 +41,9 @@ pub fn run_links(
 pub fn run_back(
     rt: &HostRuntime,
     book: &mut Hierarchy,
-    numbers: &mut Numbers,
+    numbers: &mut Numbers<u32>,
 ) -> anyhow::Result<()> {
-    let types = numbers.next_type()?;
+    let types = next_type(numbers)?;
     let links = numbers.next()? as usize;
     print!(rt; "back:")?;
     match book.take_back(types, links) {

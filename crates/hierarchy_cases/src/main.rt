@@ -10,20 +10,20 @@ mod shown;
 
 use anyhow::anyhow;
 use case::Case;
+use case_numbers::Numbers;
 use chains::chain_order::ChainOrder;
 use chains::joining::Joining;
 use entering::{run_back, run_links, run_types};
-use numbers::Numbers;
 use settles::run_settle;
 use shown::{run_asks, run_tables};
 use std::io::{BufRead, BufReader};
 
-// A step on a book that stands.
+// A step on a book that stands. A step of the script is told by its word.
 fn run_step(
     rt: &HostRuntime,
     case: &mut Case,
     word: &str,
-    numbers: &mut Numbers,
+    numbers: &mut Numbers<u32>,
 ) -> anyhow::Result<()> {
     match word {
         "types" => run_types(rt, &mut case.book, numbers.next()?),

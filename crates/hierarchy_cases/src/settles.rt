@@ -1,6 +1,5 @@
 // Settling a book, and whether what is written as a loop is one.
 use crate::case::Case;
-use crate::numbers::copy_of;
 use chains::decomposer::Decomposer;
 use descent::link::Link;
 use settling::outcome::{Settled, Unsettled};
@@ -11,7 +10,7 @@ pub fn run_settle<D: Decomposer>(
     case: &mut Case,
     decomposer: &D,
 ) -> anyhow::Result<()> {
-    let before = copy_of(rt.alloc(), &case.table)?;
+    let before = case.table.clone()?;
     match case
         .book
         .settle(decomposer, &mut case.table, &mut case.scratch)
@@ -40,52 +39,31 @@ pub fn run_settle<D: Decomposer>(
 }
 
 fn say_loop(rt: &HostRuntime, case: &Case, before: &[u16], length: usize) -> anyhow::Result<()> {
-    let count = case.book.link_count();
-    let ok = is_written(case.book.link_table(), count, before, &case.table, length);
+    let ok = is_written(case.book.links(), before, &case.table, length);
     println!(rt; "refused 10: loop {}", if ok { "ok" } else { "wrong" })?;
     Ok(())
 }
 
-// Whether the front of the table, of that length, is a loop of the first links, and the rest is as before.
-fn is_written(links: &[Link], count: usize, before: &[u16], after: &[u16], length: usize) -> bool {
-    if count > links.len() || length > after.len() || length > before.len() {
-        return false;
+// Whether the front of the table, of that length, is a loop of the links, and the rest is as before.
+fn is_written(links: &[Link], before: &[u16], after: &[u16], length: usize) -> bool {
+    match (
+        before.split_at_checked(length),
+        after.split_at_checked(length),
+    ) {
+        (Some((_, kept)), Some((types, rest))) => is_loop(links, types) && kept == rest,
+        _ => false,
     }
-    is_loop(&links[0..count], &after[0..length])
-        && before[length..before.len()] == after[length..after.len()]
 }
 
 // Whether the types are different, each is linked to the next, and the last to the first.
 fn is_loop(links: &[Link], types: &[u16]) -> bool {
-    let Some(last) = types.last() else {
-        return false;
-    };
-    let mut before = *last;
-    for next in types {
-        if !is_linked(links, before, *next) || times(types, *next) != 1 {
-            return false;
-        }
-        before = *next;
-    }
-    true
-}
-
-fn is_linked(links: &[Link], from: u16, to: u16) -> bool {
-    for link in links {
-        if link.from == from && link.to == to {
-            return true;
-        }
-    }
-    false
-}
-
-// How many times a type stands among the types.
-fn times(types: &[u16], sought: u16) -> usize {
-    let mut found = 0usize;
-    for t in types {
-        if *t == sought {
-            found = found.saturating_add(1);
-        }
-    }
-    found
+    let next = types.iter().cycle().skip(1);
+    !types.is_empty()
+        && types.iter().zip(next).all(|(from, to)| {
+            let link = Link {
+                from: *from,
+                to: *to,
+            };
+            links.contains(&link) && types.iter().filter(|t| *t == to).count() == 1
+        })
 }

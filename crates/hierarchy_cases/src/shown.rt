@@ -1,6 +1,9 @@
 // What a book and its tables hold, and what its chain index answers.
+ghost use Rattle.std.specs.Iterator.{IsFinite};
+
 use crate::case::Case;
-use crate::numbers::Numbers;
+use crate::numbers::next_type;
+use case_numbers::Numbers;
 use descent::answerer::Answerer;
 use descent::link::Link;
 use hierarchy::book::Hierarchy;
@@ -11,15 +14,19 @@ const MOST_SHOWN: usize = 16;
 const PRIME: u64 = 1_000_000_007;
 
 // Prints what the chain index answers to the pairs that follow, and first whether the book is settled.
-pub fn run_asks(rt: &HostRuntime, book: &Hierarchy, numbers: &mut Numbers) -> anyhow::Result<()> {
+pub fn run_asks(
+    rt: &HostRuntime,
+    book: &Hierarchy,
+    numbers: &mut Numbers<u32>,
+) -> anyhow::Result<()> {
     match book.settled_chains() {
         Ok(chains) => print!(rt; "of {chains} chains:")?,
         Err(_) => print!(rt; "refused 12:")?,
     }
     let mut index = book.chain_index();
-    for _ in 0..numbers.pairs() {
-        let a = numbers.next_type()?;
-        let b = numbers.next_type()?;
+    for _ in 0..numbers.count() / 2 {
+        let a = next_type(numbers)?;
+        let b = next_type(numbers)?;
         match index.related(a, b) {
             Ok(true) => print!(rt; " yes")?,
             Ok(false) => print!(rt; " no")?,
@@ -58,7 +65,7 @@ fn show(rt: &HostRuntime, name: &str, entries: &[u16]) -> anyhow::Result<()> {
     let length = entries.len();
     print!(rt; "; {name} {length}")?;
     if length > MOST_SHOWN {
-        print!(rt; " sum {}", sum_of(entries))?;
+        print!(rt; " sum {}", sum_of(entries.iter().copied()))?;
         return Ok(());
     }
     for entry in entries {
@@ -74,7 +81,8 @@ fn show_links(rt: &HostRuntime, links: &[Link]) -> anyhow::Result<()> {
     let length = links.len();
     print!(rt; "; links {length}")?;
     if length > MOST_SHOWN {
-        print!(rt; " sum {}", link_sum_of(links))?;
+        let ends = links.iter().flat_map(|link| [link.from, link.to]);
+        print!(rt; " sum {}", sum_of(ends))?;
         return Ok(());
     }
     for link in links {
@@ -83,26 +91,13 @@ fn show_links(rt: &HostRuntime, links: &[Link]) -> anyhow::Result<()> {
     Ok(())
 }
 
-// The sum of each entry times its place, the first place being 1.
-fn sum_of(entries: &[u16]) -> u64 {
-    let mut sum = 0u64;
-    let mut place = 0u64;
-    for entry in entries {
-        place = place.wrapping_add(1);
-        sum = sum.wrapping_add(place.wrapping_mul(u64::from(*entry)));
-    }
-    sum % PRIME
-}
-
-// The same sum over the ends of the links, one after the other.
-fn link_sum_of(links: &[Link]) -> u64 {
-    let mut sum = 0u64;
-    let mut place = 0u64;
-    for link in links {
-        let from = place.wrapping_add(1).wrapping_mul(u64::from(link.from));
-        place = place.wrapping_add(2);
-        let to = place.wrapping_mul(u64::from(link.to));
-        sum = sum.wrapping_add(from).wrapping_add(to);
-    }
+// The sum of each number times its place, the first place being 1.
+fn sum_of<I: Iterator<Item = u16>>(numbers: I) -> u64
+    requires can { I.can_next numbers }
+    requires ends { IsFinite (I.remaining numbers) }
+{
+    let sum = (1u64..).zip(numbers).fold(0u64, |sum, (place, number)| {
+        sum.wrapping_add(place.wrapping_mul(u64::from(number)))
+    });
     sum % PRIME
 }

@@ -8,10 +8,11 @@ use descent::answerer::Answerer;
 use descent::link::Link;
 use hierarchy::book::Hierarchy;
 use hierarchy::entered::{MOST_LINKS, MOST_TYPES};
+use hierarchy::tables::Tables;
 use settling::outcome::Settled;
 use settling::settle::SCRATCH_PER_TYPE;
 use std::alloc::{AllocError, Global};
-use std::time::Instant;
+use timing::timed;
 
 const TYPES: usize = MOST_TYPES as usize;
 
@@ -21,13 +22,15 @@ const SCRATCH: usize = SCRATCH_PER_TYPE * TYPES;
 
 // A book with all types entered, over tables that suffice for every hierarchy.
 fn full_book(heap: Global) -> Result<Hierarchy, AllocError> {
-    let links = vec![in heap; Link { from: 0, to: 0 }; MOST_LINKS]?;
-    let order = vec![in heap; 0u16; TYPES]?;
-    let chain = vec![in heap; 0u16; TYPES]?;
-    let position = vec![in heap; 0u16; TYPES]?;
-    let kept = vec![in heap; 0u16; MOST_LINKS]?;
-    let index = vec![in heap; 0u16; INDEX]?;
-    let mut book = Hierarchy::new(1, TYPES, links, order, chain, position, kept, index);
+    let tables = Tables {
+        links: vec![in heap; Link { from: 0, to: 0 }; MOST_LINKS]?,
+        order: vec![in heap; 0u16; TYPES]?,
+        chain: vec![in heap; 0u16; TYPES]?,
+        position: vec![in heap; 0u16; TYPES]?,
+        kept: vec![in heap; 0u16; MOST_LINKS]?,
+        index: vec![in heap; 0u16; INDEX]?,
+    };
+    let mut book = Hierarchy::new(1, TYPES, tables);
     enter_types(&mut book);
     Ok(book)
 }
@@ -41,9 +44,7 @@ fn measure_settle<D: Decomposer>(
 ) -> anyhow::Result<()> {
     let mut table = vec![in rt.alloc(); 0u16; TYPES]?;
     let mut scratch = vec![in rt.alloc(); 0u16; SCRATCH]?;
-    let start = Instant::now(rt)?;
-    let answer = book.settle(decomposer, &mut table, &mut scratch);
-    let taken = start.elapsed(rt)?;
+    let (answer, taken) = timed(rt, || book.settle(decomposer, &mut table, &mut scratch))?;
     eprintln!(rt; "{name}, settled: {} us", taken.as_micros())?;
     let Ok(
         Settled {
@@ -57,9 +58,7 @@ fn measure_settle<D: Decomposer>(
         return Err(anyhow!("the book is not settled"));
     };
     println!(rt; "{name}: {types} types, {links} links, {chains} chains, {kept} kept")?;
-    let start = Instant::now(rt)?;
-    let related = count_related(book);
-    let taken = start.elapsed(rt)?;
+    let (related, taken) = timed(rt, || count_related(book))?;
     eprintln!(rt;
         "{name}, each of {types} x {types} questions asked: {} us",
         taken.as_micros()
@@ -71,46 +70,35 @@ fn measure_settle<D: Decomposer>(
 // How many types descend from the type.
 fn count_subtypes(book: &Hierarchy, base: u16) -> usize {
     let mut index = book.chain_index();
-    let mut related = 0usize;
-    for t in 0..MOST_TYPES {
-        if let Ok(true) = index.related(t, base) {
-            related = related.saturating_add(1);
-        }
-    }
-    related
+    (0..MOST_TYPES)
+        .filter(|t| matches!(index.related(*t, base), Ok(true)))
+        .count()
 }
 
 fn count_related(book: &Hierarchy) -> usize {
-    let mut related = 0usize;
-    for base in 0..MOST_TYPES {
-        related = related.saturating_add(count_subtypes(book, base));
-    }
-    related
+    (0..MOST_TYPES).fold(0usize, |related, base| {
+        related.saturating_add(count_subtypes(book, base))
+    })
 }
 
-fn measure_both(rt: &HostRuntime, shape: &str, book: &mut Hierarchy) -> anyhow::Result<()> {
-    measure_settle(
-        rt,
-        &format!(in rt.alloc(); "{shape} by chain order")?,
-        book,
-        &ChainOrder,
-    )?;
-    measure_settle(
-        rt,
-        &format!(in rt.alloc(); "{shape} by joining")?,
-        book,
-        &Joining { inner: ChainOrder },
-    )
+// Measures a book that is entered by a function, settled by both decomposers.
+fn measure_shape<F: FnOnce(&mut Hierarchy)>(
+    rt: &HostRuntime,
+    shape: &str,
+    enter: F,
+) -> anyhow::Result<()>
+    requires { F.IsAlwaysCallable enter }
+{
+    let mut book = full_book(rt.alloc())?;
+    enter(&mut book);
+    let name = format!(in rt.alloc(); "{shape} by chain order")?;
+    measure_settle(rt, &name, &mut book, &ChainOrder)?;
+    let name = format!(in rt.alloc(); "{shape} by joining")?;
+    measure_settle(rt, &name, &mut book, &Joining { inner: ChainOrder })
 }
 
 pub fn measure_settles(rt: &HostRuntime) -> anyhow::Result<()> {
-    let mut widest = full_book(rt.alloc())?;
-    enter_widest(&mut widest);
-    measure_both(rt, "the widest", &mut widest)?;
-    let mut deepest = full_book(rt.alloc())?;
-    enter_deepest(&mut deepest);
-    measure_both(rt, "the deepest", &mut deepest)?;
-    let mut dense = full_book(rt.alloc())?;
-    enter_dense(&mut dense);
-    measure_both(rt, "a dense one", &mut dense)
+    measure_shape(rt, "the widest", enter_widest)?;
+    measure_shape(rt, "the deepest", enter_deepest)?;
+    measure_shape(rt, "a dense one", enter_dense)
 }

@@ -29,7 +29,7 @@ fn link_to(book: &mut Hierarchy, base: u16) {
 
 // One chain of all types: each is linked to the next few. (A link past the last type is refused.)
 pub fn enter_deepest(book: &mut Hierarchy) {
-    for step in 1..BASES + 1 {
+    for step in 1..=BASES {
         link_over(book, step);
     }
 }
@@ -40,13 +40,18 @@ fn link_over(book: &mut Hierarchy, step: u16) {
     }
 }
 
+// The number after a number, in no plain pattern.
+fn after(seed: u32) -> u32 {
+    seed.wrapping_mul(1_103_515_245).wrapping_add(12_345)
+}
+
 // As many links as there may be, from types to others that stand up to 128 places above, in no plain pattern.
 pub fn enter_dense(book: &mut Hierarchy) {
     let mut seed = 1u32;
     for _ in 0..2 * MOST_LINKS {
-        seed = seed.wrapping_mul(1_103_515_245).wrapping_add(12_345);
+        seed = after(seed);
         let from = ((seed >> 21) & 1023) as u16;
-        seed = seed.wrapping_mul(1_103_515_245).wrapping_add(12_345);
+        seed = after(seed);
         let step = ((seed >> 16) & 127) as u16;
         let _ = book.enter_link(from, from.saturating_add(step).saturating_add(1));
     }

@@ -3,16 +3,14 @@ use anyhow::anyhow;
 use chains::chain_order::ChainOrder;
 use chains::joining::Joining;
 use declarations::book::Book;
-use descent::link::Link;
 use hierarchy::entered::{MOST_LINKS, MOST_TYPES};
 use names::names::MOST_BYTES;
-use names::span::Span;
-use register::tables::Tables;
+use register::tables::{TableSizes, Tables};
 use settling::outcome::Settled;
 use settling::settle::SCRATCH_PER_TYPE;
 use std::alloc::{AllocError, Global};
-use std::time::Instant;
 use texts::text::MAX_TEXT;
+use timing::timed;
 
 const TYPES: usize = MOST_TYPES as usize;
 
@@ -22,85 +20,56 @@ const BASES: usize = 8;
 // The bytes of a line: a name of five bytes, and eight bases with what parts them.
 const LINE: usize = 5 + 3 + 5 + (BASES - 1) * 7 + 1;
 
-// The name of a type: a letter and four digits.
-fn name_of(number: usize) -> [u8; 5] {
-    let mut name = *b"T0000";
-    let mut left = number;
-    for place in 0..4usize {
-        name[4 - place] = b'0' + (left % 10) as u8;
-        left /= 10;
-    }
-    name
+// The names of all types: a letter and four digits each.
+fn all_names(heap: Global) -> Result<Vec<String>, AllocError> {
+    (0..TYPES)
+        .map(|number| format!(in heap; "T{number:04}"))
+        .try_collect(heap)
 }
 
-// The line of a type: it has the next eight types as bases.
-fn push_line(text: &mut Vec<u8>, number: usize) -> Result<(), AllocError> {
-    text.extend_from_slice(&name_of(number))?;
-    let mut separator: &[u8] = b" < ";
-    for base in 1..BASES + 1 {
-        text.extend_from_slice(separator)?;
-        text.extend_from_slice(&name_of(number.saturating_add(base)))?;
-        separator = b", ";
+// The line of a type: the first of the names, with the others as its bases.
+fn push_line(heap: Global, text: &mut Vec<u8>, names: &[String]) -> Result<(), AllocError> {
+    if let [name, bases @ ..] = names {
+        let bases = bases.join(heap, ", ")?;
+        text.extend_from_slice(format!(in heap; "{name} < {bases}\n")?.as_bytes())?;
     }
-    text.push(b'\n')?;
     Ok(())
 }
 
-// A lawful text of the largest size: the lines of the types over and over.
-fn full_text(heap: Global) -> Result<Vec<u8>, AllocError> {
+// A lawful text of the largest size: the lines of the types over and over, each with the next eight types as bases.
+fn full_text(heap: Global, names: &[String]) -> Result<Vec<u8>, AllocError> {
     let mut text = Vec::with_capacity(heap, MAX_TEXT)?;
-    for line in 0..MAX_TEXT / LINE {
-        push_line(&mut text, line % (TYPES - BASES))?;
+    for line in names.windows(BASES + 1).cycle().take(MAX_TEXT / LINE) {
+        push_line(heap, &mut text, line)?;
     }
-    for _ in text.len()..MAX_TEXT {
-        text.push(b'\n')?;
-    }
+    text.resize(MAX_TEXT, b'\n')?;
     Ok(text)
 }
 
-fn full_tables(heap: Global) -> Result<Tables, AllocError> {
-    Ok(Tables {
-        pool: vec![in heap; 0u8; MOST_BYTES]?,
-        names: vec![in heap; Span {
-            start: 0,
-            length: 0
-        }; TYPES]?,
-        links: vec![in heap; Link { from: 0, to: 0 }; MOST_LINKS]?,
-        order: vec![in heap; 0u16; TYPES]?,
-        chain: vec![in heap; 0u16; TYPES]?,
-        position: vec![in heap; 0u16; TYPES]?,
-        kept: vec![in heap; 0u16; MOST_LINKS]?,
-        index: vec![in heap; 0u16; TYPES * TYPES]?,
-    })
-}
-
 // How many types descend from the last one, asked by name.
-fn count_below(book: &mut Book) -> usize {
-    let last = name_of(TYPES - 1);
-    let mut count = 0usize;
-    for number in 0..TYPES {
-        if let Ok(true) = book.ask(&name_of(number), &last) {
-            count = count.saturating_add(1);
-        }
-    }
-    count
+fn count_below(book: &mut Book, names: &[String]) -> usize {
+    let Some(last) = names.last() else {
+        return 0;
+    };
+    names
+        .iter()
+        .filter(|name| matches!(book.ask(name.as_bytes(), last.as_bytes()), Ok(true)))
+        .count()
 }
 
 pub fn measure_books(rt: &HostRuntime) -> anyhow::Result<()> {
     let heap = rt.alloc();
-    let text = full_text(heap)?;
-    let mut book = Book::new(1, full_tables(heap)?);
-    let start = Instant::now(rt)?;
-    let loaded = book.load(heap, &[], &text).is_ok();
-    let load_time = start.elapsed(rt)?;
+    let names = all_names(heap)?;
+    let text = full_text(heap, &names)?;
+    let sizes = TableSizes::of_counts(TYPES, MOST_LINKS, MOST_BYTES, TYPES * TYPES);
+    let mut book = Book::new(1, Tables::with_sizes(heap, sizes)?);
     let mut table = vec![in heap; 0u16; TYPES]?;
     let mut scratch = vec![in heap; 0u16; SCRATCH_PER_TYPE * TYPES]?;
-    let start = Instant::now(rt)?;
-    let settled = book.settle(&Joining { inner: ChainOrder }, &mut table, &mut scratch);
-    let settle_time = start.elapsed(rt)?;
-    let start = Instant::now(rt)?;
-    let below = count_below(&mut book);
-    let ask_time = start.elapsed(rt)?;
+    let (loaded, load_time) = timed(rt, || book.load(heap, &[], &text).is_ok())?;
+    let (settled, settle_time) = timed(rt, || {
+        book.settle(&Joining { inner: ChainOrder }, &mut table, &mut scratch)
+    })?;
+    let (below, ask_time) = timed(rt, || count_below(&mut book, &names))?;
     eprintln!(rt;
         "a text of {MAX_TEXT} bytes loaded: {} us",
         load_time.as_micros()

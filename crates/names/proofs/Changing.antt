@@ -1,22 +1,22 @@
 -- One name more, and fewer names: places, tables, and that the names are different.
-use Rattle.std.proofs.Common.{◌≡◌, ℕ, zero, suc, ◌+◌, ◌<◌, ◌≤◌, cond, ltb, leb, List, [], ◌∷◌, ◌++◌, length, get_or, take, drop, set, Some, None, Ok, Err, vec_items, vec_len, Result, sym, ap, ◌∙◌, subst, ap₂, ⊎_elim, append-nil, zero-add, arith}
+use Rattle.std.proofs.Common.{◌≡◌, ℕ, zero, suc, ◌+◌, ◌<◌, ◌≤◌, cond, ltb, leb, List, [], ◌∷◌, ◌++◌, length, get_or, take, drop, set, None, Ok, Err, vec_items, Result, sym, ap, ◌∙◌, subst, ap₂, ⊎_elim, append-nil, zero-add, arith}
 use Rattle.std.specs.Str.{bytes_eq}
-use Rattle.std.proofs.lemmas.List.{length-append, length_push, length-take-le, take-append-drop, get_or_append_left, get_or_push, get_or-take}
+use Rattle.std.specs.Vec.{with_items}
+use Rattle.std.proofs.lemmas.List.{length-append, length_push, length-take-le, take-append-drop, get_or_append_left, get_or_push, get_or-take, with_items_is}
 use Rattle.std.proofs.lemmas.Slice.Eq.{bytes_eq-Decides}
+use Rattle.std.proofs.lemmas.Option.{none-some}
 use Rattle.std.proofs.lemmas.Bool.{cases_Bool, cases_lt, cond-true, cond-false, and_parts, ltb-true, leb-true}
-use Rattle.names.specs.declared.refusal.Entry.{Entry}
-use Rattle.names.specs.declared.refusal.Entry.TheVariants.{Known, New}
 use Rattle.names.specs.declared.refusal.Refusal.{Refusal}
 use Rattle.names.specs.declared.refusal.Refusal.TheVariants.{NoTypePlace, NoBytePlace}
 use Rattle.names.specs.Limits.{most_types, most_bytes}
 use Rattle.names.specs.Tables.{span, bytes_of, spans_from, padded, pool_of, spans_of, wiped, written, Different}
 use Rattle.names.specs.Finding.{number_from, number_in}
-use Rattle.names.specs.Entering.{has_entry, has_bytes, place_answer, answer_by, enter_answer}
+use Rattle.names.specs.Entering.{has_entry, has_bytes, place_answer}
 use Rattle.names.specs.Held.{names_in, pool_size, table_size}
 use Rattle.names.specs.declared.names.Names.{Names}
 use Rattle.names.specs.declared.span.Span.{Span}
 use Rattle.names.proofs.Keeping.{counted}
-use Rattle.names.proofs.Padding.{refilled, written_padded, set_padded, wiped_padded}
+use Rattle.names.proofs.Padding.{length_padded, written_padded, set_padded, wiped_padded}
 use Rattle.names.proofs.Laying.{Laid, bytes_of-append, spans_from-append, length-spans_from}
 
 -- a type that is not refused finds its places
@@ -39,7 +39,7 @@ fits_from size places names bytes e =
     (cases_Bool room)
   where
     never : (x : Refusal) → ◌≡◌ {A = Result (Unit {0}) Refusal} (Err x) (Ok tt) → ⊥
-    never x z = let q : ◌≡◌ {A = ℕ} 0 1 = cc in omega arith
+    never x z = grind arith
 
 -- one name more
 module _ (names : List (List ℕ)) (bytes : List ℕ) where
@@ -83,17 +83,14 @@ module _ (names : List (List ℕ)) (left : ℕ) where
       ∙ ap (λ l. wiped (span 0 0) (length front) (length l) (padded (span 0 0) places l)) split
       ∙ wiped_padded (span 0 0) places front given (subst (λ l. length l ≤ places) split (omega arith))
 
-none_found : (number : ℕ) → Some number ≡ None → ⊥
-none_found number z = let q : ◌≡◌ {A = ℕ} 0 1 = cc in omega arith
-
 -- a name that is not found stands at no place
 pub not_found : (first : ℕ) (names : List (List ℕ)) (bytes : List ℕ) → number_from first names bytes ≡ None → (i : ℕ) → i < length names → get_or names i [] ≡ bytes → ⊥
 not_found first [] bytes e i h q = omega arith
 not_found first (name ∷ names) bytes e zero h q =
-    none_found first (sym (cond-true (bytes_eq name bytes) _ _ ((bytes_eq-Decides name bytes).1 q)) ∙ e)
+    none-some first (sym e ∙ cond-true (bytes_eq name bytes) _ _ ((bytes_eq-Decides name bytes).1 q))
 not_found first (name ∷ names) bytes e (suc i) h q =
     ⊎_elim
-    (λ t. none_found first (sym (cond-true (bytes_eq name bytes) _ _ t) ∙ e))
+    (λ t. none-some first (sym e ∙ cond-true (bytes_eq name bytes) _ _ t))
     (λ f. not_found (first + 1) names bytes (sym (cond-false (bytes_eq name bytes) _ _ f) ∙ e) i (omega arith) q)
     (cases_Bool (bytes_eq name bytes))
 
@@ -111,73 +108,60 @@ different_left names left few d i j h k q =
     let long = length-take-le left names few in
     d i j h (omega arith) (sym (get_or-take left names i [] (omega arith)) ∙ q ∙ get_or-take left names j [] (omega arith))
 
--- what entering a name answers
-module _ (n : Names) (bytes : List ℕ) where
-  abbrev pub Answers : Result Entry Refusal → Type 0
-  Answers answer = answer ≡ enter_answer (pool_size n) (table_size n) (names_in n) bytes
+-- a table that was written holds what was written
+module _ (n : Names) where
+  pool_with : (ws : List ℕ) (names : List (List ℕ)) → length (bytes_of names) ≤ pool_size n → ws ≡ pool_of names (pool_size n) → vec_items (with_items n.pool ws) ≡ pool_of names (pool_size n)
+  pool_with ws names h e = with_items_is n.pool ws (ap length e ∙ length_padded 0 (pool_size n) (bytes_of names) h) ∙ e
 
-  pub answers_known : (number : ℕ) → Some number ≡ number_in (names_in n) bytes → Answers (Ok (Known number))
-  answers_known number e = ap (λ known. answer_by known (place_answer (pool_size n) (table_size n) (names_in n) (length bytes)) (length (names_in n))) e
+  table_with : (vs : List Span) (names : List (List ℕ)) → length names ≤ table_size n → vs ≡ spans_of names (table_size n) → vec_items (with_items n.spans vs) ≡ spans_of names (table_size n)
+  table_with vs names h e =
+      with_items_is n.spans vs (ap length e ∙ length_padded (span 0 0) (table_size n) (spans_from 0 names) (omega (arith, length-spans_from 0 names))) ∙ e
 
-  pub answers_refused : (refusal : Refusal) → None ≡ number_in (names_in n) bytes → Err refusal ≡ place_answer (pool_size n) (table_size n) (names_in n) (length bytes) → Answers (Err refusal)
-  answers_refused refusal e f = ap₂ (λ known place. answer_by known place (length (names_in n))) e f
-
-  pub answers_new : None ≡ number_in (names_in n) bytes → Ok tt ≡ place_answer (pool_size n) (table_size n) (names_in n) (length bytes) → Answers (Ok (New n.count))
-  answers_new e f = ap (λ k. Ok (New k)) (sym (counted n)) ∙ ap₂ (λ known place. answer_by known place (length (names_in n))) e f
-
-  pub has_entry_lem : Ok tt ≡ place_answer (pool_size n) (table_size n) (names_in n) (length bytes) → n.count < table_size n
-  has_entry_lem f = omega (arith, counted n, (fits_from (pool_size n) (table_size n) (names_in n) (length bytes) (sym f)).0)
-
--- what the tables hold after a new name was written into a slice of the pool, and its span into the name table
-module _ (n : Names) (bytes : List ℕ) (new : None ≡ number_in (names_in n) bytes) (room : Ok tt ≡ place_answer (pool_size n) (table_size n) (names_in n) (length bytes)) (ws slice : List ℕ) (wrote : ws ≡ written n.used bytes slice) (is : slice ≡ vec_items n.pool) (long : length ws ≡ vec_len n.pool) where
-  pub laid_entered : Laid (take (vec_len n.pool) (ws ++ drop (length ws) (vec_items n.pool))) (set (vec_items n.spans) n.count (span n.used (length bytes))) (pool_size n) (table_size n) (n.count + 1) (n.used + length bytes) (names_in n ++ (bytes ∷ []))
+-- what the tables hold after a new name was written into the pool, and its span into the name table
+module _ (n : Names) (bytes : List ℕ) (new : None ≡ number_in (names_in n) bytes) (room : Ok tt ≡ place_answer (pool_size n) (table_size n) (names_in n) (length bytes)) (ws : List ℕ) (wrote : ws ≡ written n.used bytes (vec_items n.pool)) where
+  pub laid_entered : Laid (vec_items (with_items n.pool ws)) (set (vec_items n.spans) n.count (span n.used (length bytes))) (pool_size n) (table_size n) (n.count + 1) (n.used + length bytes) (names_in n ++ (bytes ∷ []))
   laid_entered =
       let names = names_in n in
       let fits = fits_from (pool_size n) (table_size n) names (length bytes) (sym room) in
+      let used : n.used + length bytes ≡ length (bytes_of (names ++ (bytes ∷ []))) = omega (arith, ap length (bytes_of_push names bytes), length-append (bytes_of names) bytes, n.in_use) in
+      let is : ws ≡ pool_of (names ++ (bytes ∷ [])) (pool_size n) = wrote ∙ ap₂ (λ (k : ℕ) (l : List ℕ). written k bytes l) n.in_use n.whole_pool ∙ pool_entered names bytes (pool_size n) in
       record {
-        pool_is =
-            refilled (vec_items n.pool) ws (vec_len n.pool) long
-            ∙ wrote
-            ∙ ap (written n.used bytes) is
-            ∙ ap₂ (λ (k : ℕ) (l : List ℕ). written k bytes l) n.in_use n.whole_pool
-            ∙ pool_entered names bytes (pool_size n);
+        pool_is = pool_with n ws (names ++ (bytes ∷ [])) (omega (arith, used, n.in_use, fits.2)) is;
         spans_is =
             ap (λ l. set l n.count (span n.used (length bytes))) n.whole_table
             ∙ ap₂ (λ (i k : ℕ). set (spans_of names (table_size n)) i (span k (length bytes))) (sym (counted n)) n.in_use
             ∙ table_entered names bytes (table_size n) fits.0;
         count_is = omega (arith, length_push names bytes, counted n);
-        used_is = omega (arith, ap length (bytes_of_push names bytes), length-append (bytes_of names) bytes, n.in_use);
-        few_types = (omega (arith, counted n, fits.0), omega (arith, counted n, fits.1));
-        few_bytes = (omega (arith, n.in_use, fits.2), omega (arith, n.in_use, fits.3));
+        used_is = used;
+        in_table = omega (arith, counted n, fits.0);
+        few_types = omega (arith, counted n, fits.1);
+        in_pool = omega (arith, n.in_use, fits.2);
+        few_bytes = omega (arith, n.in_use, fits.3);
         different = different_entered names bytes n.different (sym new);
       }
 
--- what the tables hold after the places of the later names were set to zero in slices of both
+-- what the tables hold after the places of the later names were set to zero
 module _ (n : Names) (left bytes : ℕ) (few : left ≤ n.count) (is : bytes ≡ length (bytes_of (take left (names_in n)))) where
-  pub fewer_bytes : bytes ≤ n.used
+  fewer_bytes : bytes ≤ n.used
   fewer_bytes = omega (arith, bytes_left (names_in n) left, n.in_use)
 
-  module _ (ws slice : List ℕ) (wrote : ws ≡ wiped 0 bytes n.used slice) (is-pool : slice ≡ vec_items n.pool) (long : length ws ≡ vec_len n.pool) (vs part : List Span) (set_to : vs ≡ wiped (span 0 0) left n.count part) (is-table : part ≡ vec_items n.spans) (wide : length vs ≡ vec_len n.spans) where
-    pub laid_left : Laid (take (vec_len n.pool) (ws ++ drop (length ws) (vec_items n.pool))) (take (vec_len n.spans) (vs ++ drop (length vs) (vec_items n.spans))) (pool_size n) (table_size n) left bytes (take left (names_in n))
+  module _ (ws : List ℕ) (wrote : ws ≡ wiped 0 bytes n.used (vec_items n.pool)) (vs : List Span) (set_to : vs ≡ wiped (span 0 0) left n.count (vec_items n.spans)) where
+    pub laid_left : Laid (vec_items (with_items n.pool ws)) (vec_items (with_items n.spans vs)) (pool_size n) (table_size n) left bytes (take left (names_in n))
     laid_left =
         let names = names_in n in
         let few' : left ≤ length names = omega (arith, counted n) in
         record {
           pool_is =
-              refilled (vec_items n.pool) ws (vec_len n.pool) long
-              ∙ wrote
-              ∙ ap (wiped 0 bytes n.used) (is-pool ∙ n.whole_pool)
-              ∙ ap₂ (λ (a b : ℕ). wiped 0 a b (pool_of names (pool_size n))) is n.in_use
-              ∙ pool_left names left (pool_size n) (omega (arith, n.in_use, n.few_bytes));
+              pool_with n ws (take left names) (omega (arith, bytes_left names left, n.in_use, n.in_pool))
+              (wrote ∙ ap (wiped 0 bytes n.used) n.whole_pool ∙ ap₂ (λ (a b : ℕ). wiped 0 a b (pool_of names (pool_size n))) is n.in_use ∙ pool_left names left (pool_size n) (omega (arith, n.in_use, n.in_pool)));
           spans_is =
-              refilled (vec_items n.spans) vs (vec_len n.spans) wide
-              ∙ set_to
-              ∙ ap (wiped (span 0 0) left n.count) (is-table ∙ n.whole_table)
-              ∙ ap (λ b. wiped (span 0 0) left b (spans_of names (table_size n))) (sym (counted n))
-              ∙ table_left names left (table_size n) few' (omega (arith, counted n, n.few_types));
+              table_with n vs (take left names) (omega (arith, length-take-le left names few', n.in_table))
+              (set_to ∙ ap (wiped (span 0 0) left n.count) n.whole_table ∙ ap (λ b. wiped (span 0 0) left b (spans_of names (table_size n))) (sym (counted n)) ∙ table_left names left (table_size n) few' (omega (arith, counted n, n.in_table)));
           count_is = sym (length-take-le left names few');
           used_is = is;
-          few_types = (omega (arith, n.few_types), omega (arith, n.few_types));
-          few_bytes = (omega (arith, fewer_bytes, n.few_bytes), omega (arith, fewer_bytes, n.few_bytes));
+          in_table = omega (arith, n.in_table);
+          few_types = omega (arith, n.few_types);
+          in_pool = omega (arith, fewer_bytes, n.in_pool);
+          few_bytes = omega (arith, fewer_bytes, n.few_bytes);
           different = different_left names left few' n.different;
         }

@@ -11,11 +11,8 @@ module _ (n : Names) where
   pub table_length : length (vec_items n.spans) ≡ vec_len n.spans
   table_length = omega (arith, n.spans.ok.0)
 
-  pub pool_length : length (vec_items n.pool) ≡ vec_len n.pool
-  pool_length = omega (arith, n.pool.ok.0)
-
   pub counted : length (names_in n) ≡ n.count
-  counted = length-names_at (vec_items n.pool) (vec_items n.spans) n.count (omega (arith, table_length, n.few_types))
+  counted = length-names_at (vec_items n.pool) (vec_items n.spans) n.count (omega (arith, table_length, n.in_table))
 
   -- it holds exactly its names
   pub holds_itself : Holds (names_in n) (pool_size n) (table_size n) n
@@ -28,8 +25,8 @@ module _ (n : Names) where
         table_size_is = refl;
         count = sym counted;
         used = n.in_use;
-        few_types = (omega (arith, counted, n.few_types), omega (arith, counted, n.few_types));
-        few_bytes = (omega (arith, n.in_use, n.few_bytes), omega (arith, n.in_use, n.few_bytes));
+        few_types = (omega (arith, counted, n.in_table), omega (arith, counted, n.few_types));
+        few_bytes = (omega (arith, n.in_use, n.in_pool), omega (arith, n.in_use, n.few_bytes));
         different = n.different;
       }
 
@@ -44,15 +41,15 @@ module _ (n : Names) where
         table_size_is = p;
         count = l.count_is;
         used = l.used_is;
-        few_types = (omega (arith, l.count_is, l.few_types), omega (arith, l.count_is, l.few_types));
-        few_bytes = (omega (arith, l.used_is, l.few_bytes), omega (arith, l.used_is, l.few_bytes));
+        few_types = (omega (arith, l.count_is, l.in_table), omega (arith, l.count_is, l.few_types));
+        few_bytes = (omega (arith, l.used_is, l.in_pool), omega (arith, l.used_is, l.few_bytes));
         different = l.different;
       }
 
   -- an entry of the name table, and what it marks
   module _ (i : ℕ) (s : Span) (below : i < n.count) (is : s ≡ get_or (vec_items n.spans) i s) where
     entry : s ≡ get_or (vec_items n.spans) i (span 0 0)
-    entry = get_or_read_under (vec_items n.spans) i (vec_len n.spans) s (span 0 0) is (omega (arith, n.few_types)) (sym table_length)
+    entry = get_or_read_under (vec_items n.spans) i (vec_len n.spans) s (span 0 0) is (omega (arith, n.in_table)) (sym table_length)
 
     laid : s ≡ get_or (spans_from 0 (names_in n)) i (span 0 0)
     laid =
@@ -67,9 +64,9 @@ module _ (n : Names) where
     marked_end =
         let P : Span → Type 0 = λ t. t.start + t.length ≤ 0 + length (bytes_of (names_in n)) in
         let h : P s = subst P (sym laid) (span_end 0 (names_in n) i (span 0 0) (omega (arith, counted))) in
-        omega (arith, n.few_bytes, n.in_use)
+        omega (arith, n.in_pool, n.in_use)
 
     pub marked_part : part (vec_items n.pool) s ≡ get_or (names_in n) i []
     marked_part =
         ap (part (vec_items n.pool)) entry
-        ∙ sym (get_or-names_at (vec_items n.pool) (vec_items n.spans) n.count i (span 0 0) (omega (arith, table_length, n.few_types)) below)
+        ∙ sym (get_or-names_at (vec_items n.pool) (vec_items n.spans) n.count i (span 0 0) (omega (arith, table_length, n.in_table)) below)

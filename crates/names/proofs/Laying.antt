@@ -68,8 +68,10 @@ pub record Laid (pool : List ℕ) (spans : List Span) (size places count used : 
   pub spans_is : spans ≡ spans_of names places
   pub count_is : count ≡ length names
   pub used_is : used ≡ length (bytes_of names)
-  pub few_types : (count ≤ places) × (count ≤ most_types)
-  pub few_bytes : (used ≤ size) × (used ≤ most_bytes)
+  pub in_table : count ≤ places
+  pub few_types : count ≤ most_types
+  pub in_pool : used ≤ size
+  pub few_bytes : used ≤ most_bytes
   pub different : Different names
 
 module _ (pool : List ℕ) (spans : List Span) (size places count used : ℕ) (names : List (List ℕ)) (l : Laid pool spans size places count used names) where

@@ -1,40 +1,20 @@
 -- Tables that are written: places set to zero, items written, one place set.
-use Rattle.std.proofs.Common.{◌≡◌, ℕ, suc, ◌+◌, ◌-◌, ◌<◌, ◌≤◌, List, [], ◌∷◌, ◌++◌, length, get_or, take, drop, set, replicate, sym, refl, ap, ◌∙◌, append_assoc, append-nil, add-one, arith}
-use Rattle.std.proofs.lemmas.List.{length-append, length-replicate, length-take-le, take-append-drop, drop_more, drop_all, drop-drop, drop-replicate, drop_at, take_at, set_at, set_split, replicate_more, replicate-append-replicate}
+use Rattle.std.proofs.Common.{◌≡◌, ℕ, suc, ◌+◌, ◌-◌, ◌<◌, ◌≤◌, List, [], ◌∷◌, ◌++◌, length, take, drop, set, replicate, sym, refl, ap, ap₂, ◌∙◌, append_assoc, add-one, arith}
+use Rattle.std.proofs.lemmas.List.{length-append, length-replicate, drop-drop, drop-replicate, drop_at, take_at, set_split, replicate-append-replicate}
+use borrow.Rule.Slice.PartMut.{mid_of, mid_len, put_mid, Post-is}
 use Rattle.names.specs.Tables.{padded, wiped, written}
 
--- what a Vec holds after a slice of all of it was written
-pub refilled : {X : Type 0} (xs ws : List X) (n : ℕ) → length ws ≡ n → take n (ws ++ drop (length ws) xs) ≡ ws
-refilled xs ws n e = take_at ws (drop (length ws) xs) n e
+-- what a table holds after a part of it was written
+module _ {X : Type 0} (first : ℕ) (table part : List X) where
+  pub part_wiped : (zero : X) (last : ℕ) → first ≤ last → last ≤ length table → part ≡ replicate (length (mid_of first (last - first) table)) zero → put_mid first (last - first) table part ≡ wiped zero first last table
+  part_wiped zero last ordered within e =
+      ap₂ (λ (l m : List X). take first table ++ (l ++ m)) (e ∙ ap (λ k. replicate k zero) (mid_len first last table within)) (Post-is first last table ordered)
+
+  pub part_written : (items : List X) → part ≡ items → put_mid first (first + length items - first) table part ≡ written first items table
+  part_written items e =
+      ap₂ (λ (l m : List X). take first table ++ (l ++ m)) e (Post-is first (first + length items) table (omega arith))
 
 module _ {X : Type 0} (zero : X) where
-  pub wiped_none : (first : ℕ) (table : List X) → table ≡ wiped zero first first table
-  wiped_none first table =
-      let z : 0 ≡ first - first = omega arith in
-      sym (take-append-drop first table) ∙ ap (λ k. take first table ++ (replicate k zero ++ drop first table)) z
-
-  pub wiped_more : (first i : ℕ) (table : List X) → first ≤ i → i < length table → set (wiped zero first i table) i zero ≡ wiped zero first (i + 1) table
-  wiped_more first i table h k =
-      let front = take first table ++ replicate (i - first) zero in
-      let n : i - first + 1 ≡ i + 1 - first = omega arith in
-      let long : length front ≡ i =
-      length-append (take first table) (replicate (i - first) zero)
-      ∙ omega (arith, length-take-le first table (omega arith), length-replicate (i - first) zero) in
-      ap (λ l. set l i zero) (sym (append_assoc (take first table) (replicate (i - first) zero) (drop i table)) ∙ ap (λ l. front ++ l) (drop_more table i zero k))
-      ∙ set_at front (get_or table i zero) (drop (i + 1) table) zero i long
-      ∙ append_assoc (take first table) (replicate (i - first) zero) (zero ∷ drop (i + 1) table)
-      ∙ ap (λ l. take first table ++ l) (sym (append_assoc (replicate (i - first) zero) (zero ∷ []) (drop (i + 1) table)))
-      ∙ ap (λ l. take first table ++ (l ++ drop (i + 1) table)) (replicate_more (i - first) zero ∙ ap (λ m. replicate m zero) n)
-
-  -- what a Vec holds after all of it was set to zero
-  pub emptied : (xs ws slice : List X) (m n : ℕ) → ws ≡ wiped zero 0 m slice → m ≡ n → length ws ≡ length slice → length slice ≡ n → take n (ws ++ drop (length ws) xs) ≡ replicate (n - 0) zero
-  emptied xs ws slice m n e k l h =
-      refilled xs ws n (l ∙ h)
-      ∙ e
-      ∙ ap (λ l. replicate (m - 0) zero ++ l) (drop_all m slice (omega arith))
-      ∙ append-nil (replicate (m - 0) zero)
-      ∙ ap (λ i. replicate (i - 0) zero) k
-
   pub length_padded : (size : ℕ) (front : List X) → length front ≤ size → length (padded zero size front) ≡ size
   length_padded size front h =
       length-append front (replicate (size - length front) zero) ∙ omega (arith, length-replicate (size - length front) zero)

@@ -1,25 +1,40 @@
--- The search for a name.
-use Rattle.std.proofs.Common.{◌≡◌, ℕ, ◌+◌, ◌<◌, ◌≤◌, Bool, true, false, cond, List, [], length, get_or, drop, Some, None, Decides, ◌∙◌}
+-- The search for a name: the number of the first name with its bytes.
+use Rattle.std.proofs.Common.{◌≡◌, ℕ, zero, suc, ◌+◌, ◌<◌, List, [], ◌∷◌, length, get_or, Some, None, Option, sym, refl, ap, ◌∙◌, ⊎_elim, add-zero, zero-add, arith}
 use Rattle.std.specs.Str.{bytes_eq}
-use Rattle.std.proofs.lemmas.List.{at_drop_more, at_drop_all}
 use Rattle.std.proofs.lemmas.Slice.Eq.{bytes_eq-Decides}
-use Rattle.std.proofs.lemmas.Bool.Decides.{same_from_decides}
-use Rattle.std.proofs.lemmas.Bool.{cond-true, cond-false}
-use Rattle.names.specs.Finding.{number_from}
+use Rattle.std.proofs.lemmas.Bool.{cases_Bool, cond-true, cond-false}
+use Rattle.names.specs.Finding.{number_from, number_in}
 
--- the answer of a comparison is that of the definition
-pub compared : (name bytes : List ℕ) (r : Bool) → Decides r (name ≡ bytes) → bytes_eq name bytes ≡ r
-compared name bytes r h = same_from_decides (bytes_eq name bytes) r (bytes_eq-Decides name bytes) h
+-- no name of the list has these bytes
+abbrev pub Without : List (List ℕ) → List ℕ → ℕ → Type 0
+Without names bytes end = (i : ℕ) → i < end → get_or names i [] ≡ bytes → ⊥
 
-module _ (names : List (List ℕ)) (bytes : List ℕ) (i : ℕ) where
-  step : i < length names → number_from i (drop i names) bytes ≡ cond (bytes_eq (get_or names i []) bytes) (Some i) (number_from (i + 1) (drop (i + 1) names) bytes)
-  step h = at_drop_more (λ l. number_from i l bytes) names i [] h
+-- the first name with these bytes stands at this place
+abbrev pub FirstAt : List (List ℕ) → List ℕ → ℕ → Type 0
+FirstAt names bytes i = (i < length names) × (get_or names i [] ≡ bytes) × Without names bytes i
 
-  pub search_hit : i < length names → bytes_eq (get_or names i []) bytes ≡ true → number_from i (drop i names) bytes ≡ Some i
-  search_hit h e = step h ∙ cond-true _ _ _ e
+pub first_found : (first : ℕ) (names : List (List ℕ)) (bytes : List ℕ) (i : ℕ) → FirstAt names bytes i → number_from first names bytes ≡ Some (first + i)
+first_found first [] bytes i at = absurd (omega (arith, at.0))
+first_found first (name ∷ names) bytes zero at = cond-true (bytes_eq name bytes) _ _ ((bytes_eq-Decides name bytes).1 at.1) ∙ ap (λ k. Some k) (sym (add-zero first))
+first_found first (name ∷ names) bytes (suc i) at =
+    ⊎_elim
+    (λ t. absurd (at.2 0 (omega arith) ((bytes_eq-Decides name bytes).0 t)))
+    (λ f.
+    let n : first + 1 + i ≡ first + suc i = omega arith in
+    cond-false (bytes_eq name bytes) _ _ f ∙ first_found (first + 1) names bytes i (omega (arith, at.0), at.1, λ j h. at.2 (suc j) (omega arith)) ∙ ap (λ k. Some k) n)
+    (cases_Bool (bytes_eq name bytes))
 
-  pub search_miss : i < length names → bytes_eq (get_or names i []) bytes ≡ false → number_from i (drop i names) bytes ≡ number_from (i + 1) (drop (i + 1) names) bytes
-  search_miss h e = step h ∙ cond-false _ _ _ e
+none_found : (first : ℕ) (names : List (List ℕ)) (bytes : List ℕ) → Without names bytes (length names) → number_from first names bytes ≡ None
+none_found first [] bytes none = refl
+none_found first (name ∷ names) bytes none =
+    ⊎_elim
+    (λ t. absurd (none 0 (omega arith) ((bytes_eq-Decides name bytes).0 t)))
+    (λ f. cond-false (bytes_eq name bytes) _ _ f ∙ none_found (first + 1) names bytes (λ i h. none (suc i) (omega arith)))
+    (cases_Bool (bytes_eq name bytes))
 
-  pub search_end : length names ≤ i → number_from i (drop i names) bytes ≡ None
-  search_end h = at_drop_all (λ l. number_from i l bytes) names i h
+-- what a search among all names comes to
+pub found : (names : List (List ℕ)) (bytes : List ℕ) (count : ℕ) (r : Option ℕ) → length names ≡ count → (r ≡ None → Without names bytes count) → ((i : ℕ) → r ≡ Some i → (i < count) × (get_or names i [] ≡ bytes) × Without names bytes i) → r ≡ number_in names bytes
+found names bytes count None long none at = sym (none_found 0 names bytes (λ i h. none refl i (omega arith)))
+found names bytes count (Some i) long none at =
+    let here = at i refl in
+    ap (λ k. Some k) (sym (zero-add i)) ∙ sym (first_found 0 names bytes i (omega (arith, here.0), here.1, here.2))

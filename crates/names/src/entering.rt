@@ -6,7 +6,6 @@ ghost use Rattle.names.specs.Held.{names_in, pool_size, table_size, Holds};
 use crate::names::{MOST_BYTES, MOST_TYPES, Names};
 use crate::refusal::{Entry, Refusal};
 use crate::span::Span;
-use crate::writing::write_bytes;
 
 impl Names {
     // Refuses a type with that many bytes where it finds no entry, or where its bytes find no place.
@@ -34,12 +33,13 @@ impl Names {
         self.check_place(bytes.len())?;
         let number = self.count;
         let start = self.used;
-        write_bytes(&mut self.pool, start, bytes);
+        let end = start + bytes.len();
+        self.pool[start..end].copy_from_slice(bytes);
         self.spans[number as usize] = Span {
             start: start as u32,
             length: bytes.len() as u32,
         };
-        self.used = start + bytes.len();
+        self.used = end;
         self.count = number + 1;
         Ok(Entry::New(number))
     }

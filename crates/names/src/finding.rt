@@ -4,7 +4,6 @@ ghost use Rattle.std.specs.Option.{option_map};
 ghost use Rattle.names.specs.Finding.{name_of, number_in};
 ghost use Rattle.names.specs.Held.{names_in};
 
-use crate::compare::same_name;
 use crate::names::Names;
 
 impl Names {
@@ -13,9 +12,7 @@ impl Names {
         requires entered { number < self.now.count }
         ensures { result.now ≡ slice_index_or (names_in self.now) number [] }
     {
-        let span = self.spans[number as usize];
-        let start = span.start as usize;
-        &self.pool[start..start + span.length as usize]
+        &self.pool[self.spans[number as usize].range()]
     }
 
     /// The name of the type of that number, a part of the pool, if there is such a type.
@@ -33,11 +30,6 @@ impl Names {
     pub fn find(&self, bytes: &[u8]) -> Option<u16>
         ensures { result ≡ number_in (names_in self.now) bytes.now }
     {
-        for number in 0..self.count {
-            if same_name(self.marked(number), bytes) {
-                return Some(number);
-            }
-        }
-        None
+        (0..self.count).find(|number| self.marked(*number) == bytes)
     }
 }

@@ -1,7 +1,6 @@
 // The names of a book's types, over a byte pool and a name table that the host makes.
 #![tactic(auto)]
 
-mod compare;
 pub mod entering;
 pub mod facts;
 pub mod finding;
@@ -10,4 +9,3 @@ pub mod refusal;
 pub mod span;
 pub mod tables;
 pub mod taking_back;
-mod writing;

@@ -61,8 +61,6 @@ impl fmt::Display for NotEntered {
     ghost output = { λ x. Some (not_entered_text x) };
 
     fn fmt<W: fmt::Write>(&self, f: &mut fmt::Formatter<W>) -> fmt::Result {
-        let left = self.left;
-        let types = self.types;
-        write!(f, "{left} types cannot be left of {types}")
+        write!(f, "{} types cannot be left of {}", self.left, self.types)
     }
 }

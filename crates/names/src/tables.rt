@@ -5,17 +5,14 @@ ghost use Rattle.names.specs.Held.{names_in, pool_size, table_size, Holds};
 
 use crate::names::Names;
 use crate::span::{NO_SPAN, Span};
-use crate::writing::wipe;
 
 impl Names {
     /// No names, over a pool and a name table of any lengths, which are set to 0 throughout.
     pub fn new(mut pool: Vec<u8>, mut spans: Vec<Span>) -> Names
         ensures { Holds [] (vec_len pool) (vec_len spans) result }
     {
-        let bytes = pool.len();
-        wipe(&mut pool, 0, bytes, 0);
-        let places = spans.len();
-        wipe(&mut spans, 0, places, NO_SPAN);
+        pool.fill(0);
+        spans.fill(NO_SPAN);
         Names {
             pool,
             spans,
@@ -30,12 +27,7 @@ impl Names {
         ensures pool { result.0.items ≡ pool_of (names_in self) (pool_size self) }
         ensures table { result.1.items ≡ spans_of (names_in self) (table_size self) }
     {
-        let Names {
-            pool,
-            spans,
-            count: _,
-            used: _,
-        } = self;
+        let Names { pool, spans, .. } = self;
         (pool, spans)
     }
 

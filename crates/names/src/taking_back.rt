@@ -7,13 +7,13 @@ ghost use Rattle.names.specs.Held.{names_in, pool_size, table_size, Holds};
 use crate::names::Names;
 use crate::refusal::NotEntered;
 use crate::span::NO_SPAN;
-use crate::writing::wipe;
 
 impl Names {
     // How many bytes the first names take.
     fn bytes_of_first(&self, names: u16) -> usize
         requires entered { names ≤ self.now.count }
-        ensures { result ≡ length (bytes_of (take names (names_in self.now))) }
+        ensures bytes { result ≡ length (bytes_of (take names (names_in self.now))) }
+        ensures within { result ≤ self.now.used }
     {
         if names < self.count {
             self.spans[names as usize].start as usize
@@ -33,8 +33,8 @@ impl Names {
             return Err(NotEntered { left, types });
         }
         let bytes = self.bytes_of_first(left);
-        wipe(&mut self.pool, bytes, self.used, 0);
-        wipe(&mut self.spans, left as usize, types as usize, NO_SPAN);
+        self.pool[bytes..self.used].fill(0);
+        self.spans[left as usize..types as usize].fill(NO_SPAN);
         self.used = bytes;
         self.count = left;
         Ok(())

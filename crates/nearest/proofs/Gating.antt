@@ -2,8 +2,7 @@
 use Rattle.std.proofs.Common.{◌≡◌, ℕ, ◌<◌, ◌≤◌, true, List, length, get_or, is_some, Some, None, Option, sym, ap, ◌∙◌, inl, inr, arith}
 use mathlib.Core.Logic.{∥∥₁_elim}
 use native.Mathlib.Nat.{ℕ_set}
-use native.Mathlib.Bridge.{le_prop}
-use Rattle.std.proofs.lemmas.List.{get_or-take, length-take}
+use Rattle.std.proofs.lemmas.List.{get_or-take}
 use Rattle.std.proofs.lemmas.Bool.{false≢true}
 use Rattle.descent.specs.declared.link.Link.{Link}
 use Rattle.descent.specs.Answers.{Agree}
@@ -20,14 +19,12 @@ use Rattle.nearest.proofs.Nearests.{nearest_by, nearest_one, nearest_descent}
 -- the front of an order table holds the whole order
 pub record Ordered (n : ℕ) (links : List Link) (table : List ℕ) : Type 0 where
   pub whole : length (order_of n links) ≡ n
-  pub room : n ≤ length table
   pub at : (r : ℕ) → r < n → get_or table r 0 ≡ get_or (order_of n links) r 0
 
 pub ordered : (settled : Option ℕ) (n : ℕ) (links : List Link) (order chain position kept index : List ℕ) → is_some settled ≡ true
     → ∥ Answering settled n links order chain position kept index ∥₁ → Ordered n links order
 ordered (Some count) n links order chain position kept index s x = record {
   whole = ∥∥₁_elim x (ℕ_set _ _) (λ y. y.0);
-  room = ∥∥₁_elim x le_prop (λ y. omega (arith, length-take n order, ap length y.1, y.0));
   at = λ r h. ∥∥₁_elim x (ℕ_set _ _) (λ y. sym (get_or-take n order r 0 h) ∙ ap (λ (l : List ℕ). get_or l r 0) y.1);
 }
 ordered None n links order chain position kept index s x = absurd (false≢true s)

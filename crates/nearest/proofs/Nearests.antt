@@ -10,9 +10,9 @@ use Rattle.descent.specs.Nearests.{Common, Near, Nearest}
 use Rattle.descent.proofs.Closures.{decides_descends}
 use Rattle.descent.proofs.Computing.{nearest_computed}
 use Rattle.names.specs.Finding.{name_of, number_in}
+use Rattle.names.proofs.Numbers.{stands}
 use Rattle.register.specs.Asking.{numbers_found, numbers_answer}
-use Rattle.register.specs.Entries.{Entries, number_or, number_for, unless_known, with_name}
-use Rattle.register.proofs.Parts.{number_below}
+use Rattle.register.specs.Entries.{Entries}
 use Rattle.nearest.specs.ByNames.{nearest_of, name_of_some, answer_for, NamesNearest, AnswersAreNearest}
 
 module _ (n : ℕ) (R S : ℕ → ℕ → Type 0) (same : Agree n R S) (a b : ℕ) (first : a < n) (second : b < n) where
@@ -46,33 +46,19 @@ nearest_descent n links a b first second =
     nearest_computed n (descends links) (Descends links) (λ x y h k. decides_descends links x y) (λ x h. descends_refl links x) (descends_trans links) a b first second
 
 -- ---- by names
-known_below : (names : List (List ℕ)) (bytes : List ℕ) (k : ℕ) → number_in names bytes ≡ Some k → k < length names
-known_below names bytes k e =
-    let number : number_for names bytes ≡ k = ap (λ o. number_or o (length names)) e in
-    let same : with_name names bytes ≡ names = ap (λ o. unless_known o names bytes) e in
-    omega (arith, number_below names bytes, number, ap length same)
-
 found_below : (names : List (List ℕ)) (first second : List ℕ) (x y : Option ℕ) (a b : ℕ) → number_in names first ≡ x → number_in names second ≡ y → numbers_found x y ≡ Ok (a, b) → (a < length names) × (b < length names)
 found_below names first second (Some c) (Some d) a b p q e =
     let same : ◌≡◌ {A = ℕ × ℕ} (c, d) (a, b) = cc in
     let i : c ≡ a = ap (λ (x : ℕ × ℕ). x.0) same in
     let j : d ≡ b = ap (λ (x : ℕ × ℕ). x.1) same in
-    (omega (arith, known_below names first c p), omega (arith, known_below names second d q))
-found_below names first second (Some c) None a b p q e = let z : ◌≡◌ {A = ℕ} 0 1 = cc in absurd (omega arith)
-found_below names first second None y a b p q e = let z : ◌≡◌ {A = ℕ} 0 1 = cc in absurd (omega arith)
+    (omega (arith, (stands names first c p).0), omega (arith, (stands names second d q).0))
+found_below names first second (Some c) None a b p q e = absurd (grind arith)
+found_below names first second None y a b p q e = absurd (grind arith)
 
--- the numbers of two names are below the number of types, and the register is settled
-pub record Asked (settled : Option ℕ) (names : List (List ℕ)) (a b : ℕ) : Type 0 where
-  pub chains : ℕ
-  pub is : settled ≡ Some chains
-  pub first : a < length names
-  pub second : b < length names
-
-pub asked : (settled : Option ℕ) (names : List (List ℕ)) (first second : List ℕ) (a b : ℕ) → numbers_answer settled names first second ≡ Ok (a, b) → Asked settled names a b
-asked (Some k) names first second a b e =
-    let h = found_below names first second (number_in names first) (number_in names second) a b refl refl e in
-    record { chains = k; is = refl; first = h.0; second = h.1 }
-asked None names first second a b e = let z : ◌≡◌ {A = ℕ} 0 1 = cc in absurd (omega arith)
+-- the numbers of two names of a settled register are below the number of types
+pub asked : (settled : Option ℕ) (names : List (List ℕ)) (first second : List ℕ) (a b : ℕ) → numbers_answer settled names first second ≡ Ok (a, b) → (a < length names) × (b < length names)
+asked (Some k) names first second a b e = found_below names first second (number_in names first) (number_in names second) a b refl refl e
+asked None names first second a b e = absurd (grind arith)
 
 named : (e : Entries) (a b : ℕ) (x : Option ℕ) → Nearest (length e.names) (Descends e.links) a b x → NamesNearest e a b (name_of_some e.names x)
 named e a b (Some c) found =
@@ -85,5 +71,5 @@ answers_are_nearest c first second a b e =
     let h = asked c.settled c.entries.names first second a b e in (
       name_of_some c.entries.names (nearest_of c.entries a b),
       ap (answer_for c.entries) e,
-      named c.entries a b (nearest_of c.entries a b) (nearest_descent (length c.entries.names) c.entries.links a b h.first h.second),
+      named c.entries a b (nearest_of c.entries a b) (nearest_descent (length c.entries.names) c.entries.links a b h.0 h.1),
     )

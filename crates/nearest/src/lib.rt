@@ -21,8 +21,8 @@ fn fill_ranks(order: &[u16], types: u16, ranks: &mut [u16])
     requires once { (r s : ℕ) → r < s → s < types → slice_index order.now r ≢ slice_index order.now s }
     ensures { (r : ℕ) → r < types → slice_index ranks.new (slice_index order.now r) ≡ r }
 {
-    for rank in 0..types {
-        ranks[order[rank as usize] as usize] = rank;
+    for (rank, of) in order[..types as usize].iter().enumerate() {
+        ranks[*of as usize] = rank as u16;
     }
 }
 
@@ -34,13 +34,8 @@ fn nearest_gated<A: Answerer + Drop>(answerer: A, levels: &[u16], a: u16, b: u16
     requires second { b < A.Answerer.count answerer }
     ensures { Nearest (A.Answerer.count answerer) (Gated levels.now (A.Answerer.relates answerer)) a b result }
 {
-    match Gate::new(answerer, levels) {
-        Ok(mut gate) => match nearest(&mut gate, a, b) {
-            Ok(found) => found,
-            Err(_) => unreachable(),
-        },
-        Err(_) => unreachable(),
-    }
+    let mut gate = Gate::new(answerer, levels).unwrap();
+    nearest(&mut gate, a, b).unwrap()
 }
 
 // The nearest common base of two types of a settled register, through a gate of their ranks.
@@ -50,6 +45,7 @@ fn nearest_number(register: &Register, a: u16, b: u16) -> Option<u16>
     requires second { b < length (contents_of register.now).entries.names }
     ensures { result ≡ nearest_of (contents_of register.now).entries a b }
 {
+    // On the stack, with a place for each type that a gate stands over: a question allocates nothing.
     let mut ranks = [0; MOST_LEVELS as usize];
     let book = register.numbered();
     fill_ranks(book.order(), book.types(), &mut ranks);
@@ -72,8 +68,6 @@ pub fn nearest_by_names<'r>(
 }
 
 /// The name that is answered is that of the nearest common base by descent.
-pub fn the_answer_is_the_nearest_common_base_by_descent() -> u8
+pub fn the_answer_is_the_nearest_common_base_by_descent()
     ensures { AnswersAreNearest }
-{
-    0
-}
+{}

@@ -1,6 +1,6 @@
 -- Where types are left unranked, each of them has an unranked subtype.
-use Rattle.std.proofs.Common.{◌≡◌, ℕ, ◌-◌, ◌<◌, ◌≤◌, true, false, not, List, length, get_or, take, Some, None, sym, ap, ◌∙◌, subst, ⊎_elim, arith}
-use Rattle.std.proofs.lemmas.List.{get_or-take, length-take-le}
+use Rattle.std.proofs.Common.{◌≡◌, ℕ, ◌-◌, ◌<◌, ◌≤◌, true, false, not, List, length, get_or, take, Some, None, sym, refl, ap, ◌∙◌, subst, ⊎_elim, arith}
+use Rattle.std.proofs.lemmas.List.{get_or-take}
 use Rattle.std.proofs.lemmas.List.FromFn.{get_or-map-range_with_len}
 use Rattle.std.proofs.lemmas.Bool.{and_cases, both_ways, not-true, not-false, not_from_false}
 use Rattle.descent.specs.declared.link.Link.{Link}
@@ -9,7 +9,8 @@ use Rattle.order.specs.Order.{ranked, subtypes_ranked, ready, lowest, order_of}
 use Rattle.order.specs.Ranks.{rank_of, ranks_of}
 use Rattle.order.specs.Down.{unranked, down, walked, Round}
 use Rattle.descent.specs.Loops.{Loop}
-use Rattle.order.proofs.Lowest.{lowest_none, lowest_some}
+use Rattle.std.specs.Option.{IsSome}
+use Rattle.order.proofs.Lowest.{lowest_none, lowest_some, option_cases}
 use Rattle.order.proofs.Rounds.{down_round, walked_stays, walked_linked, round_loop}
 use Rattle.order.proofs.Tallies.{tally_gap}
 use Rattle.order.proofs.Places.{rank_tells}
@@ -47,11 +48,15 @@ module _ (n : ℕ) (links : List Link) (rank : List ℕ) (small : n ≤ 65535) (
         let below : r.0 < n = subst (λ (x : ℕ). x < n) r.1.2 (within r.1.0 r.1.1).0 in
         (r.0, r.1, table_unranked r.0 below ∙ not_from_false _ r.2)
 
-    pub table_some : None ≡ lowest (unranked rank) 0 n → ⊥
-    table_some e =
+    pub table_some : IsSome (lowest (unranked rank) 0 n)
+    table_some =
+        ⊎_elim
+        (λ (e : lowest (unranked rank) 0 n ≡ None).
         let t = left_some n links short in
-        both_ways (unranked rank t.0) (lowest_none (unranked rank) 0 n t.0 (sym e) (omega arith) (omega (arith, t.1)))
-        (table_unranked t.0 t.1 ∙ not_from_false _ t.2)
+        absurd (both_ways (unranked rank t.0) (lowest_none (unranked rank) 0 n t.0 e (omega arith) (omega (arith, t.1)))
+        (table_unranked t.0 t.1 ∙ not_from_false _ t.2)))
+        (λ (f : (t : ℕ) × (lowest (unranked rank) 0 n ≡ Some t)). subst IsSome (sym f.1) refl)
+        (option_cases (lowest (unranked rank) 0 n))
 
     -- n steps down from an unranked type lead to a round, and its types, written from its end, are a loop
     module _ (first start : ℕ) (found : Some first ≡ lowest (unranked rank) 0 n) (steps : start ≡ walked (down links (unranked rank)) first n) where
@@ -63,12 +68,11 @@ module _ (n : ℕ) (links : List Link) (rank : List ℕ) (small : n ≤ 65535) (
           let r = down_round n links within (unranked rank) table_has first start_at.0 start_at.1 in
           (r.0, r.1, r.2, ap (λ s. walked (down links (unranked rank)) s r.0) steps ∙ r.3 ∙ sym steps)
 
-      pub table_loop : (table : List ℕ) (k : ℕ) → Round (down links (unranked rank)) start k → k ≤ length table
-          → ((i : ℕ) → i < k → get_or table i 0 ≡ walked (down links (unranked rank)) start (k - 1 - i)) → Loop links (take k table)
-      table_loop table k r h at =
+      pub table_loop : (types : List ℕ) (k : ℕ) → Round (down links (unranked rank)) start k → length types ≡ k
+          → ((i : ℕ) → i < k → get_or types i 0 ≡ walked (down links (unranked rank)) start (k - 1 - i)) → Loop links types
+      table_loop types k r long at =
           let s = walked_stays n links within (unranked rank) table_has first start_at.0 start_at.1 n in
           let below : start < n = subst (λ (x : ℕ). x < n) (sym steps) s.0 in
           let free : unranked rank start ≡ true = ap (unranked rank) steps ∙ s.1 in
-          round_loop links (down links (unranked rank)) start k (take k table) r
-          (walked_linked n links within (unranked rank) table_has start below free)
-          (length-take-le k table h) (λ i l. get_or-take k table i 0 l ∙ at i l)
+          round_loop links (down links (unranked rank)) start k types r
+          (walked_linked n links within (unranked rank) table_has start below free) long at

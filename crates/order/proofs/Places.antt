@@ -1,17 +1,12 @@
 -- The types ranked so far, by their places, and the rank of each.
-use Rattle.std.proofs.Common.{◌≡◌, ℕ, zero, suc, ◌+◌, ◌<◌, ◌≤◌, Bool, true, false, cond, not, ◌||◌, eqb, List, [], ◌∷◌, ◌++◌, length, get_or, sym, refl, ap, ◌∙◌, ⊎_elim, arith}
-use Rattle.std.proofs.lemmas.Bool.{or_cases, or_left, or_right, or_parts, eq-eqb, ne_eqb, eqb-true, both_ways, cases_Bool}
+use Rattle.std.proofs.Common.{◌≡◌, ℕ, suc, ◌+◌, ◌<◌, ◌≤◌, Bool, true, false, cond, not, ◌||◌, eqb, List, [], ◌∷◌, ◌++◌, length, get_or, sym, refl, ap, ◌∙◌, ⊎_elim, arith}
+use Rattle.std.proofs.lemmas.Bool.{or_cases, or_right, or_parts, eq-eqb, ne_eqb, eqb-true, both_ways, cases_Bool}
+use Rattle.std.proofs.lemmas.List.Folds.{list_any_at}
+use Rattle.std.proofs.lemmas.List.Recursion.{or_push}
+use Rattle.std.proofs.Math.Bool.{or-false}
 use Rattle.order.specs.Order.{ranked}
 use Rattle.order.specs.Ranks.{no_rank, rank_from, rank_of}
 use Rattle.order.proofs.Tallies.{tally, tally_more}
-
-or_false : (b : Bool) → (b || false) ≡ b
-or_false true = refl
-or_false false = refl
-
-or_assoc : (x y z : Bool) → ((x || y) || z) ≡ (x || (y || z))
-or_assoc true y z = refl
-or_assoc false y z = refl
 
 -- a ranked type stands at some place
 pub ranked-at : (xs : List ℕ) (t : ℕ) → ranked xs t ≡ true → (j : ℕ) × (j < length xs) × (get_or xs j 0 ≡ t)
@@ -24,19 +19,16 @@ ranked-at (x ∷ xs) t e =
 
 -- and a type that stands at some place is ranked
 pub at-ranked : (xs : List ℕ) (j t : ℕ) → j < length xs → get_or xs j 0 ≡ t → ranked xs t ≡ true
-at-ranked [] j t h e = let z : ⊥ = omega arith in absurd z
-at-ranked (x ∷ xs) zero t h e = or_left _ _ (eq-eqb x t e)
-at-ranked (x ∷ xs) (suc j) t h e = or_right _ _ (at-ranked xs j t (omega arith) e)
+at-ranked xs j t h e = list_any_at (λ x. eqb x t) xs j 0 h (eq-eqb _ _ e)
 
 pub ranked-push : (xs : List ℕ) (t u : ℕ) → ranked (xs ++ (t ∷ [])) u ≡ (ranked xs u || eqb t u)
-ranked-push [] t u = or_false (eqb t u)
-ranked-push (x ∷ xs) t u = ap (λ b. eqb x u || b) (ranked-push xs t u) ∙ sym (or_assoc (eqb x u) (ranked xs u) (eqb t u))
+ranked-push xs t u = or_push (λ ys. ranked ys u) (λ x. eqb x u) refl (λ x ys. refl) xs t
 
 pub ranked_push_same : (xs : List ℕ) (t : ℕ) → ranked (xs ++ (t ∷ [])) t ≡ true
 ranked_push_same xs t = ranked-push xs t t ∙ or_right _ _ (eq-eqb t t refl)
 
 pub ranked_push_other : (xs : List ℕ) (t u : ℕ) → (u ≡ t → ⊥) → ranked (xs ++ (t ∷ [])) u ≡ ranked xs u
-ranked_push_other xs t u d = ranked-push xs t u ∙ ap (λ b. ranked xs u || b) (ne_eqb t u (λ q. d (sym q))) ∙ or_false (ranked xs u)
+ranked_push_other xs t u d = ranked-push xs t u ∙ ap (λ b. ranked xs u || b) (ne_eqb t u (λ q. d (sym q))) ∙ or-false (ranked xs u)
 
 -- one type more is ranked
 pub tally_push : (n : ℕ) (xs : List ℕ) (t : ℕ) → t < n → ranked xs t ≡ false → tally n (ranked (xs ++ (t ∷ []))) ≡ tally n (ranked xs) + 1

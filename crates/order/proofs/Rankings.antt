@@ -1,6 +1,6 @@
 -- The tables of the ranking: what they hold after each type that gets a rank.
 use Rattle.std.proofs.Common.{◌≡◌, ℕ, ◌+◌, ◌-◌, ◌<◌, ◌≤◌, true, false, not, ◌&&◌, eqb, ◌≢◌, List, [], ◌∷◌, ◌++◌, length, get_or, take, drop, set, Some, None, sym, ap, ◌∙◌, subst, ⊎_elim, arith, length-set}
-use Rattle.std.proofs.lemmas.List.{length_push, length-take-le, take_more_set, drop-set-lt, drop-drop, get_or-set_same, get_or-set_other, get_or-take}
+use Rattle.std.proofs.lemmas.List.{length_push, length-take-le, take_more_set, drop-set-lt, drop-drop, get_or-set_same, get_or-set_other, take_at}
 use Rattle.std.proofs.lemmas.List.FromFn.{fill_by_all}
 use Rattle.std.proofs.lemmas.Bool.{and_parts, not-true, cases_eq}
 use Rattle.descent.specs.declared.link.Link.{Link}
@@ -16,7 +16,7 @@ use Rattle.order.proofs.Waits.{subtypes_waiting, waiting_push}
 -- what the tables hold once the types of done are ranked
 pub record Tables (n : ℕ) (links : List Link) (done rank waiting : List ℕ) : Type 0 where
   pub small : n ≤ 65535
-  pub room : n ≤ length rank
+  pub room : length rank ≡ n
   pub counted : tally n (ranked done) ≡ length done
   pub ranks : (u : ℕ) → u < n → get_or rank u 0 ≡ rank_of done u
   pub waits : (u : ℕ) → u < n → get_or waiting u 0 ≡ waiting_of links done u
@@ -72,7 +72,7 @@ pub record Ranking (n : ℕ) (links : List Link) (order rank waiting : List ℕ)
   pub left : extended n links (take r order) (n - r) ≡ order_of n links
 
 -- its start
-pub ranking_none : {n : ℕ} {links : List Link} {order rank waiting : List ℕ} → n ≤ 65535 → n ≤ length order → n ≤ length rank
+pub ranking_none : {n : ℕ} {links : List Link} {order rank waiting : List ℕ} → n ≤ 65535 → n ≤ length order → length rank ≡ n
     → ((u : ℕ) → u < n → get_or rank u 0 ≡ 65535) → ((u : ℕ) → u < n → get_or waiting u 0 ≡ waiting_of links [] u) → Ranking n links order rank waiting 0
 ranking_none {n} {links} small places room ranks waits =
     let z : n - 0 ≡ n = omega arith in
@@ -122,10 +122,15 @@ module _ {n : ℕ} {links : List Link} {order rank waiting : List ℕ} {r : ℕ}
     pub end_count : r ≡ length (order_of n links)
     end_count = sym long ∙ ap length end_order
 
-    pub end_ranks : take n rank ≡ ranks_of n links
-    end_ranks =
-        fill_by_all (rank_of (order_of n links)) (take n rank) n 0 (length-take-le n rank s.tables.room)
-        (λ k l. get_or-take n rank k 0 l ∙ s.tables.ranks k l ∙ ap (λ d. rank_of d k) end_order)
+  -- the same where each type has its place
+  pub whole_order : n ≤ r → take r order ≡ order_of n links
+  whole_order h = let z : n - r ≡ 0 = omega arith in sym (ap (extended n links (take r order)) z) ∙ s.left
+
+  -- then the table holds the ranks
+  pub end_ranks : take r order ≡ order_of n links → (rest : List ℕ) → take n (rank ++ rest) ≡ ranks_of n links
+  end_ranks e rest =
+      take_at rank rest n s.tables.room
+      ∙ fill_by_all (rank_of (order_of n links)) rank n 0 s.tables.room (λ k l. s.tables.ranks k l ∙ ap (λ d. rank_of d k) e)
 
 -- a write at the next place leaves the places past it
 pub rest_more : (order first : List ℕ) (r t : ℕ) → drop r order ≡ drop r first → drop (r + 1) (set order r t) ≡ drop (r + 1) first

@@ -1,11 +1,11 @@
 -- Walks of a function below n come round, and a round of links is a loop.
-use Rattle.std.proofs.Common.{◌≡◌, ℕ, zero, suc, ◌+◌, ◌-◌, ◌<◌, ◌≤◌, Bool, true, false, ◌&&◌, ◌||◌, eqb, ◌⊎◌, List, [], ◌∷◌, map, length, get_or, drop, Some, None, sym, refl, ap, ◌∙◌, subst, inl, inr, ⊎_elim, add-one, arith}
-use Rattle.std.proofs.lemmas.List.{at_drop_more}
-use Rattle.std.specs.List.{range_with_len}
+use Rattle.std.proofs.Common.{◌≡◌, ℕ, zero, suc, ◌+◌, ◌-◌, ◌<◌, ◌≤◌, Bool, true, false, cond, ◌&&◌, ◌||◌, eqb, ◌⊎◌, List, [], ◌∷◌, map, length, get_or, Some, None, sym, refl, ap, ◌∙◌, subst, inl, inr, ⊎_elim, add-one, arith}
+use Rattle.std.specs.List.{range_with_len, find}
+use Rattle.std.specs.Option.{option_map, unwrap_or}
 use Rattle.std.proofs.lemmas.List.FromFn.{length-map-range_with_len, get_or-map-range_with_len}
-use Rattle.std.proofs.lemmas.Bool.{or_cases, or_left, and_parts, and_from, eq-eqb, ne_eqb, eqb-true, eqb-false, both_ways, cases_Bool, cond-true, cond-false}
+use Rattle.std.proofs.lemmas.Bool.{or_cases, or_left, and_parts, and_from, eq-eqb, ne_eqb, eqb-true, eqb-false, both_ways, cases_Bool}
 use Rattle.descent.specs.declared.link.Link.{Link}
-use Rattle.descent.specs.Links.{no_link, Linked, Within}
+use Rattle.descent.specs.Links.{Linked, Within}
 use Rattle.descent.specs.Loops.{Loop}
 use Rattle.order.specs.Order.{lowest}
 use Rattle.order.specs.Down.{down, walked, Round}
@@ -118,18 +118,10 @@ round_loop links f t k types r linked long at = record {
 
 -- the step down, link by link
 down_hit : (l : Link) (links : List Link) (test : ℕ → Bool) (t : ℕ) → (eqb l.to t && test l.from) ≡ true → down (l ∷ links) test t ≡ l.from
-down_hit l links test t e = cond-true _ l.from (down links test t) e
+down_hit l links test t e = ap (λ b. unwrap_or (option_map (λ k. k.from) (cond b (Some l) (find (λ k. eqb k.to t && test k.from) links))) t) e
 
 down_miss : (l : Link) (links : List Link) (test : ℕ → Bool) (t : ℕ) → (eqb l.to t && test l.from) ≡ false → down (l ∷ links) test t ≡ down links test t
-down_miss l links test t e = cond-false _ l.from (down links test t) e
-
--- the same in a loop over the links
-module _ (links : List Link) (test : ℕ → Bool) (t i : ℕ) (in' : i < length links) where
-  pub down_here : (eqb (get_or links i no_link).to t && test (get_or links i no_link).from) ≡ true → down (drop i links) test t ≡ (get_or links i no_link).from
-  down_here e = at_drop_more (λ ls. down ls test t) links i no_link in' ∙ down_hit (get_or links i no_link) (drop (i + 1) links) test t e
-
-  pub down_past : (eqb (get_or links i no_link).to t && test (get_or links i no_link).from) ≡ false → down (drop (i + 1) links) test t ≡ down (drop i links) test t
-  down_past e = sym (at_drop_more (λ ls. down ls test t) links i no_link in' ∙ down_miss (get_or links i no_link) (drop (i + 1) links) test t e)
+down_miss l links test t e = ap (λ b. unwrap_or (option_map (λ k. k.from) (cond b (Some l) (find (λ k. eqb k.to t && test k.from) links))) t) e
 
 -- the step leads along a link, from a type that passes the test
 abbrev Leads : List Link → (ℕ → Bool) → ℕ → Type 0

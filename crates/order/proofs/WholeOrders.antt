@@ -1,10 +1,11 @@
 -- What the order means: ranks that rise, and no loop where all types are ranked.
-use Rattle.std.proofs.Common.{◌≡◌, ℕ, zero, suc, ◌+◌, ◌-◌, ◌<◌, ◌≤◌, true, not, List, [], ◌∷◌, length, get_or, sym, refl, ap, ◌∙◌, subst, ⊎_elim, add-one, arith}
+use Rattle.std.proofs.Common.{◌≡◌, ℕ, ◌<◌, true, not, List, [], ◌∷◌, length, get_or, sym, refl, ap, ◌∙◌, subst, ⊎_elim, arith}
 use Rattle.std.proofs.lemmas.Bool.{cases_order, cases_eq, not_from_false, not-true}
 use Rattle.descent.specs.declared.link.Link.{Link}
-use Rattle.descent.specs.Links.{link, Linked, Path, Within}
-use Rattle.descent.specs.Links.Path.{one, more}
-use Rattle.descent.specs.Loops.{Loop, LoopFree, Rising}
+use Rattle.descent.specs.Links.{link, Linked, Within}
+use Rattle.descent.specs.Loops.{Rising}
+use Rattle.descent.proofs.Ranks.{rising_loop_free, loop_path}
+pub use Rattle.descent.proofs.Ranks.{rising_path as path_rises}
 use Rattle.order.specs.Order.{ranked, order_of}
 use Rattle.order.specs.Ranks.{rank_of}
 use Rattle.order.specs.Meaning.{RanksRise, UnrankedWhereLoop, Once, EachTypeOnce}
@@ -14,26 +15,6 @@ use Rattle.order.proofs.Places.{ranked-at, at-ranked, ranked_rank}
 use Rattle.order.proofs.Orders.{order_sound, order_fits}
 use Rattle.order.proofs.Left.{left_has, left_some}
 use Rattle.order.proofs.Rounds.{some_loop}
-
--- ranks that rise rule out paths back and loops
-pub path_rises : (links : List Link) (rank : ℕ → ℕ) → Rising links rank → {a b : ℕ} → Path links a b → rank a < rank b
-path_rises links rank r {a} {b} (one l) = r a b l
-path_rises links rank r {a} (more {b = b} l p) = omega (arith, r a b l, path_rises links rank r p)
-
-pub rising_loop_free : (links : List Link) (rank : ℕ → ℕ) → Rising links rank → LoopFree links
-rising_loop_free links rank r a p = omega (arith, path_rises links rank r p)
-
-loop_rises : (links : List Link) (rank : ℕ → ℕ) → Rising links rank → (types : List ℕ) → Loop links types → (i : ℕ) → i < length types → rank (get_or types 0 0) ≤ rank (get_or types i 0)
-loop_rises links rank r types l zero h = omega arith
-loop_rises links rank r types l (suc i) h =
-    let up = r (get_or types i 0) (get_or types (i + 1) 0) (l.next i (omega arith)) in
-    omega (arith, loop_rises links rank r types l i (omega arith), up, ap (λ k. rank (get_or types k 0)) (add-one i))
-
-pub rising_no_loop : (links : List Link) (rank : ℕ → ℕ) → Rising links rank → (types : List ℕ) → Loop links types → ⊥
-rising_no_loop links rank r types l =
-    let last = length types - 1 in
-    let end : last + 1 ≡ length types = omega (arith, l.some) in
-    omega (arith, loop_rises links rank r types l last (omega arith), r (get_or types last 0) (get_or types 0 0) (l.back last end))
 
 module _ (n : ℕ) (links : List Link) where
   -- the type at a place has that place for its rank
@@ -88,7 +69,7 @@ unranked_where_loop = record {
       left.0 left.1 (not_from_false _ left.2);
   loop_unranked = λ n links within types l.
       ⊎_elim
-      (λ whole. absurd (rising_no_loop links (rank_of (order_of n links)) (whole_rises n links whole within) types l))
+      (λ whole. absurd (rising_loop_free links (rank_of (order_of n links)) (whole_rises n links whole within) (get_or types 0 0) (loop_path links types l)))
       (λ apart. omega (arith, order_fits n links))
       (cases_eq (length (order_of n links)) n);
   whole_loop_free = λ n links within whole. rising_loop_free links (rank_of (order_of n links)) (whole_rises n links whole within);

@@ -1,25 +1,20 @@
 -- The order of types: of the unranked types whose subtypes are all ranked, the lowest-numbered gets the next rank.
-use Rattle.std.specs.Prelude.{ℕ, zero, suc, ◌+◌, Bool, true, false, cond, not, ◌&&◌, ◌||◌, List, [], ◌∷◌, ◌++◌, Some, None, Option, ◌==◌}
+use Rattle.std.specs.Prelude.{ℕ, zero, suc, Bool, not, ◌&&◌, ◌||◌, List, [], ◌∷◌, ◌++◌, Some, None, Option, ◌==◌}
+use Rattle.std.specs.List.{list_any, list_all}
 use Rattle.descent.specs.declared.link.Link.{Link}
+pub use Rattle.descent.specs.Computed.{lowest}
 
 -- whether t is one of the types ranked so far
 abbrev pub ranked : List ℕ → ℕ → Bool
-ranked [] t = false
-ranked (x ∷ done) t = x == t || ranked done t
+ranked done t = list_any (λ x. x == t) done
 
 -- whether each subtype of t, that is each type linked to it, is ranked
 abbrev pub subtypes_ranked : List Link → List ℕ → ℕ → Bool
-subtypes_ranked [] done t = true
-subtypes_ranked (l ∷ links) done t = (not (l.to == t) || ranked done l.from) && subtypes_ranked links done t
+subtypes_ranked links done t = list_all (λ l. not (l.to == t) || ranked done l.from) links
 
 -- whether t is unranked and its subtypes are all ranked
 abbrev pub ready : List Link → List ℕ → ℕ → Bool
 ready links done t = not (ranked done t) && subtypes_ranked links done t
-
--- the lowest that passes the test, of the m numbers from t on
-abbrev pub lowest : (ℕ → Bool) → ℕ → ℕ → Option ℕ
-lowest test t zero = None
-lowest test t (suc m) = cond (test t) (Some t) (lowest test (t + 1) m)
 
 -- the list, and at its end the next type where there is one
 abbrev pub grown : List ℕ → Option ℕ → List ℕ

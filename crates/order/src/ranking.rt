@@ -7,45 +7,30 @@ ghost use Rattle.order.specs.Waiting.{waiting_of, links_between};
 
 use descent::link::Link;
 
-/// What the rank table holds for a type that has no rank.
+/// What the rank table holds for a type that has no rank: it is lent, and has 16-bit numbers.
 pub const UNRANKED: u16 = 65535;
 
-// Writes the value to the first places of the table, one for each type.
-fn set_all(types: u16, table: &mut [u16], value: u16)
-    requires { types ≤ length table.old }
-    ensures set { (t : ℕ) → t < types → slice_index table.new t ≡ value }
-    ensures rest { drop types table.new ≡ drop types table.old }
-{
-    for t in 0..types {
-        table[t as usize] = value;
-    }
-}
-
 // Adds to each type's entry the number of links to it.
-fn count_links(types: u16, links: &[Link], waiting: &mut [u16])
-    requires within { Within links.now types }
+fn count_links(links: &[Link], waiting: &mut [u16])
+    requires within { Within links.now (length waiting.old) }
     requires few { length links.now ≤ 65535 }
-    requires waiting_room { types ≤ length waiting.old }
-    requires clear { (t : ℕ) → t < types → slice_index waiting.old t ≡ 0 }
-    ensures waits { (t : ℕ) → t < types → slice_index waiting.new t ≡ waiting_of links.now [] t }
-    ensures rest { drop types waiting.new ≡ drop types waiting.old }
+    requires clear { (t : ℕ) → t < length waiting.old → slice_index waiting.old t ≡ 0 }
+    ensures { (t : ℕ) → t < length waiting.old → slice_index waiting.new t ≡ waiting_of links.now [] t }
 {
-    for l in links {
-        waiting[l.to as usize] += 1;
+    for link in links {
+        waiting[link.to as usize] += 1;
     }
 }
 
 // Takes the links from t off the entries of its bases.
-fn release(types: u16, links: &[Link], t: u16, waiting: &mut [u16])
-    requires within { Within links.now types }
-    requires waiting_room { types ≤ length waiting.old }
-    requires counted { (u : ℕ) → u < types → links_between links.now t u ≤ slice_index waiting.old u }
-    ensures waits { (u : ℕ) → u < types → slice_index waiting.new u + links_between links.now t u ≡ slice_index waiting.old u }
-    ensures rest { drop types waiting.new ≡ drop types waiting.old }
+fn release(links: &[Link], t: u16, waiting: &mut [u16])
+    requires within { Within links.now (length waiting.old) }
+    requires counted { (u : ℕ) → u < length waiting.old → links_between links.now t u ≤ slice_index waiting.old u }
+    ensures { (u : ℕ) → u < length waiting.old → slice_index waiting.new u + links_between links.now t u ≡ slice_index waiting.old u }
 {
-    for l in links {
-        if l.from == t {
-            waiting[l.to as usize] -= 1;
+    for link in links {
+        if link.from == t {
+            waiting[link.to as usize] -= 1;
         }
     }
 }
@@ -56,12 +41,7 @@ fn next_type(types: u16, rank: &[u16], waiting: &[u16]) -> Option<u16>
     requires waiting_room { types ≤ length waiting.now }
     ensures { result ≡ lowest (λ t. (slice_index rank.now t == 65535) && slice_index waiting.now t == 0) 0 types }
 {
-    for t in 0..types {
-        if rank[t as usize] == UNRANKED && waiting[t as usize] == 0 {
-            return Some(t);
-        }
-    }
-    None
+    (0..types).find(|t| rank[*t as usize] == UNRANKED && waiting[*t as usize] == 0)
 }
 
 /// Ranks the types below `types`: of the unranked types whose subtypes are all ranked, the lowest-numbered gets the next rank.
@@ -86,15 +66,19 @@ pub fn rank_types(
     ensures ranks_rest { drop types rank.new ≡ drop types rank.old }
     ensures waiting_rest { drop types waiting.new ≡ drop types waiting.old }
 {
-    set_all(types, rank, UNRANKED);
-    set_all(types, waiting, 0);
-    count_links(types, links, waiting);
-    let mut count: u16 = 0;
-    while let Some(t) = next_type(types, rank, waiting) {
-        order[count as usize] = t;
-        rank[t as usize] = count;
-        release(types, links, t, waiting);
-        count += 1;
+    let rank = &mut rank[..types as usize];
+    let waiting = &mut waiting[..types as usize];
+    rank.fill(UNRANKED);
+    waiting.fill(0);
+    count_links(links, waiting);
+    // By rank: it is the place in the order, and also what the table of ranks gets.
+    for next in 0..types {
+        let Some(t) = next_type(types, rank, waiting) else {
+            return next as usize;
+        };
+        order[next as usize] = t;
+        rank[t as usize] = next;
+        release(links, t, waiting);
     }
-    count as usize
+    types as usize
 }

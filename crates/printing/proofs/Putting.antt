@@ -2,6 +2,7 @@
 use Rattle.std.proofs.Common.{◌≡◌, ℕ, ◌+◌, ◌≤◌, List, [], ◌++◌, length, take, drop, sym, refl, ap, ◌∙◌, ap₂, append_assoc, add-zero, arith}
 use Rattle.std.proofs.lemmas.List.{length-append, length-take-le, take-append-drop, take_at, drop_at, drop-drop}
 use Rattle.names.specs.Tables.{written}
+use Rattle.printing.specs.declared.output.Output.{Output}
 use Rattle.printing.specs.Putting.{Puts, EndFits}
 
 written_none : (at : ℕ) (out : List ℕ) → written at [] out ≡ out
@@ -21,42 +22,44 @@ written_more at text left out h =
     ∙ append_assoc (take at out) text (left ++ drop (at + length (text ++ left)) out)
     ∙ ap (λ l. take at out ++ l) (sym (append_assoc text left (drop (at + length (text ++ left)) out)))
 
--- what is left to put from `at` on completes what was to be put from `start` on
-pub record Goes (at : ℕ) (left out : List ℕ) (start : ℕ) (all before : List ℕ) : Type 0 where
-  pub kept : length out ≡ length before
-  pub ends : at + length left ≡ start + length all
-  pub holds : at + length left ≤ length before → written at left out ≡ written start all before
+-- what is left to put into the output as it is now completes what was to be put at the start
+pub record Goes (left : List ℕ) (now : Output) (all : List ℕ) (start : Output) : Type 0 where
+  pub same : now.out.ghost_name ≡ start.out.ghost_name
+  pub kept : length now.out.now ≡ length start.out.now
+  pub ends : now.at + length left ≡ start.at + length all
+  pub holds : now.at + length left ≤ length start.out.now → written now.at left now.out.now ≡ written start.at all start.out.now
 
-pub goes_start : (start : ℕ) (all before : List ℕ) → Goes start all before start all before
-goes_start start all before = record { kept = refl; ends = refl; holds = λ h. refl }
+pub goes_start : (all : List ℕ) (start : Output) → Goes all start all start
+goes_start all start = record { same = refl; kept = refl; ends = refl; holds = λ h. refl }
 
-module _ {start : ℕ} {all before : List ℕ} where
+module _ {all : List ℕ} {start : Output} where
   -- what is left, written in another way
-  pub goes_as : {at : ℕ} {left out : List ℕ} (other : List ℕ) → left ≡ other → Goes at left out start all before → Goes at other out start all before
-  goes_as {at} {left} {out} other e g =
+  pub goes_as : {left : List ℕ} {now : Output} (other : List ℕ) → left ≡ other → Goes left now all start → Goes other now all start
+  goes_as {left} {now} other e g =
       let n = ap length e in
       record {
+        same = g.same;
         kept = g.kept;
         ends = omega (arith, g.ends);
-        holds = λ h. ap (λ l. written at l out) (sym e) ∙ g.holds (omega arith);
+        holds = λ h. ap (λ l. written now.at l now.out.now) (sym e) ∙ g.holds (omega arith);
       }
 
-  pub goes_says : {at : ℕ} {out : List ℕ} (text left : List ℕ) → Goes at (text ++ left) out start all before → EndFits all start → EndFits text at
+  pub goes_says : {now : Output} (text left : List ℕ) → Goes (text ++ left) now all start → EndFits all start → EndFits text now
   goes_says text left g s = omega (arith, g.ends, length-append text left)
 
-  pub goes_on : {at : ℕ} {out : List ℕ} (text left after : List ℕ) (end : ℕ) → Goes at (text ++ left) out start all before → length after ≡ length out → Puts text at out after end → Goes end left after start all before
-  goes_on {at} {out} text left after end g n p =
+  pub goes_on : {now : Output} (text left : List ℕ) (after : Output) → Goes (text ++ left) now all start → Puts text now after → Goes left after all start
+  goes_on {now} text left after g p =
       let long = length-append text left in
-      let e = p.0 in
       record {
-        kept = n ∙ g.kept;
-        ends = omega (arith, g.ends);
+        same = p.same ∙ g.same;
+        kept = p.size ∙ g.kept;
+        ends = omega (arith, g.ends, p.end);
         holds = λ h.
-            let fits : at + length text ≤ length out = omega (arith, g.kept) in
-            ap₂ (λ (k : ℕ) (l : List ℕ). written k left l) e (p.1 (omega arith)) ∙ written_more at text left out fits ∙ g.holds (omega arith);
+            let fits : now.at + length text ≤ length now.out.now = omega (arith, g.kept, p.end) in
+            ap₂ (λ (k : ℕ) (l : List ℕ). written k left l) p.end (p.holds (omega (arith, p.end))) ∙ written_more now.at text left now.out.now fits ∙ g.holds (omega (arith, p.end));
       }
 
-  pub goes_end : {at : ℕ} {out : List ℕ} → Goes at [] out start all before → Puts all start before out at
-  goes_end {at} {out} g =
-      let e : at ≡ start + length all = omega (arith, g.ends) in
-      (e, λ h. sym (written_none at out) ∙ g.holds (omega arith))
+  pub goes_end : {now : Output} → Goes [] now all start → Puts all start now
+  goes_end {now} g =
+      let e : now.at ≡ start.at + length all = omega (arith, g.ends) in
+      record { same = g.same; size = g.kept; end = e; holds = λ h. sym (written_none now.at now.out.now) ∙ g.holds (omega arith) }

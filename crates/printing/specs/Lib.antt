@@ -1,4 +1,5 @@
 pub mod Printed
+pub mod Books
 pub mod Lowest
 pub mod Putting
 pub mod Refusals

@@ -7,12 +7,14 @@ ghost use Rattle.rows.specs.KeptEntries.{marked};
 ghost use Rattle.printing.specs.Printed.{printed, print_answer, out_after};
 ghost use Rattle.printing.specs.Worked.{Worked};
 
+use crate::book::Book;
+use crate::output::Output;
 use crate::refusal::ShortOutput;
-use crate::writing::put_book;
 use descent::link::Link;
 use names::names::Names;
 
-mod bases;
+mod book;
+mod output;
 pub mod refusal;
 mod writing;
 
@@ -28,17 +30,23 @@ pub fn print(
     ensures answer { result ≡ print_answer (printed (names_in names.now) (marked kept.now links.now)) (length out.old) }
     ensures output { out.new ≡ out_after (printed (names_in names.now) (marked kept.now links.now)) out.old }
 {
+    // The text is counted first, over no places, so that a text that is too long writes nothing.
+    let book = Book { names, links, kept };
     let places = out.len();
-    let needed = put_book(names, links, kept, &mut []);
+    let mut counted = Output {
+        out: &mut [],
+        at: 0,
+    };
+    book.put(&mut counted);
+    let needed = counted.at;
     if needed > places {
         return Err(ShortOutput { places, needed });
     }
-    Ok(put_book(names, links, kept, out))
+    book.put(&mut Output { out, at: 0 });
+    Ok(needed)
 }
 
 /// The worked examples.
-pub fn the_animals_are_printed_as_worked() -> u8
+pub fn the_animals_are_printed_as_worked()
     ensures { Worked }
-{
-    0
-}
+{}

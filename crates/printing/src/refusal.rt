@@ -27,11 +27,10 @@ impl fmt::Display for ShortOutput {
     ghost output = { λ x. Some (text_of x) };
 
     fn fmt<W: fmt::Write>(&self, f: &mut fmt::Formatter<W>) -> fmt::Result {
-        let places = self.places;
-        let needed = self.needed;
         write!(
             f,
-            "refusal {SHORT_OUTPUT}: {places} places are too few for {needed} bytes"
+            "refusal {SHORT_OUTPUT}: {} places are too few for {} bytes",
+            self.places, self.needed
         )
     }
 }

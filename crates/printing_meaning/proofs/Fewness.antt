@@ -1,7 +1,7 @@
 -- No more links are printed than there are.
 use Rattle.std.proofs.Common.{◌≡◌, ℕ, ◌+◌, ◌<◌, ◌≤◌, Bool, true, false, cond, ◌||◌, eqb, List, [], ◌∷◌, ◌++◌, length, refl, ap, ◌∙◌, ap₂, ⊎_elim, arith}
 use Rattle.std.proofs.lemmas.List.{length-append}
-use Rattle.std.proofs.lemmas.Bool.{cases_Bool, cases_eq, and_parts, and_left, and_right, ne_eqb, eqb-true}
+use Rattle.std.proofs.lemmas.Bool.{true≢false, cases_Bool, cases_eq, and_parts, and_left, and_right, ne_eqb, eqb-true}
 use Rattle.descent.specs.declared.link.Link.{Link}
 use Rattle.descent.specs.Links.{link}
 use Rattle.hierarchy.specs.Entering.{is_link, has_link}
@@ -36,7 +36,7 @@ module _ (l : Link) (links : List Link) where
 
       miss : (x y : Bool) (one : Link) (ls ms : List Link) → x ≡ false → length ls ≤ length ms + 1 → length (cond (x || y) (one ∷ ls) ls) ≤ length (cond y (one ∷ ms) ms) + 1
       miss true true one ls ms e h = omega arith
-      miss true false one ls ms e h = let z : ◌≡◌ {A = ℕ} 0 1 = cc in absurd (omega arith)
+      miss true false one ls ms e h = absurd (true≢false e)
       miss false true one ls ms e h = omega arith
       miss false false one ls ms e h = omega arith
 

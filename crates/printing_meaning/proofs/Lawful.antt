@@ -12,11 +12,11 @@ pub record Good (name : List ℕ) : Type 0 where
 
 -- there are bases after ` < `
 bases_some : {c : ℕ} {bs : List ℕ} {ns : List Named} → Bases c bs ns → ns ≡ [] → ⊥
-bases_some (last_base n) e = let z : ◌≡◌ {A = ℕ} 0 1 = cc in omega arith
-bases_some (more_bases n b) e = let z : ◌≡◌ {A = ℕ} 0 1 = cc in omega arith
+bases_some (last_base n) e = grind arith
+bases_some (more_bases n b) e = grind arith
 
 none_is_one : {X : Type 0} (x : X) → ◌≡◌ {A = List X} [] (x ∷ []) → ⊥
-none_is_one x e = let z : ◌≡◌ {A = ℕ} 0 1 = cc in omega arith
+none_is_one x e = grind arith
 
 rest_is_none : {X : Type 0} (x y : X) (xs : List X) → x ∷ xs ≡ y ∷ [] → xs ≡ []
 rest_is_none x y xs e = cc

@@ -1,10 +1,10 @@
 -- The numbers of names that are different.
-use Rattle.std.proofs.Common.{◌≡◌, ℕ, suc, ◌+◌, ◌<◌, ltb, List, [], ◌∷◌, ◌++◌, length, get_or, Some, None, Option, sym, refl, ap, ◌∙◌, ⊎_elim, add-zero, zero-add, arith}
+use Rattle.std.proofs.Common.{◌≡◌, ℕ, suc, ◌+◌, ◌<◌, ltb, List, [], ◌∷◌, ◌++◌, length, get_or, Some, None, Option, sym, refl, ap, ◌∙◌, add-zero, zero-add, arith}
 use Rattle.std.proofs.lemmas.List.{get_or_append_left, get_or_at, length-append}
-use Rattle.std.proofs.lemmas.Bool.{cases_Bool, cond-true, cond-false, lt-ltb, ltb-true}
+use Rattle.std.proofs.lemmas.Bool.{cond-true, lt-ltb}
 use Rattle.names.specs.Tables.{Different}
 use Rattle.names.specs.Finding.{number_in}
-use Rattle.names.proofs.Numbers.{name_from_number, number_from_name}
+use Rattle.names.proofs.Numbers.{stands, number_from_name}
 
 -- these names have the numbers from `first` on
 abbrev pub Numbered : List (List ℕ) → ℕ → List (List ℕ) → Type 0
@@ -22,22 +22,6 @@ pub numbered : (all : List (List ℕ)) → Different all → Numbered all 0 all
 numbered all d =
     numbered_from all 0 all (λ i h.
     number_from_name all (get_or all i []) i d (cond-true (ltb i (length all)) (Some (get_or all i [])) None (lt-ltb i (length all) h)) ∙ ap (λ k. Some k) (sym (zero-add i)))
-
-same_name : (a b : List ℕ) → Some a ≡ Some b → a ≡ b
-same_name a b e = cc
-
-nothing_is_some : {X : Type 0} (x : X) → None ≡ Some x → ⊥
-nothing_is_some x e = let z : ◌≡◌ {A = ℕ} 0 1 = cc in omega arith
-
--- a found name stands at its number
-stands : (names : List (List ℕ)) (name : List ℕ) (k : ℕ) → number_in names name ≡ Some k → (k < length names) × (get_or names k [] ≡ name)
-stands names name k e =
-    let is = name_from_number names name k e in
-    let test = ltb k (length names) in
-    ⊎_elim
-    (λ yes. (ltb-true k (length names) yes, same_name (get_or names k []) name (sym (cond-true test (Some (get_or names k [])) None yes) ∙ is)))
-    (λ no. absurd (nothing_is_some name (sym (cond-false test (Some (get_or names k [])) None no) ∙ is)))
-    (cases_Bool test)
 
 -- a name is not among the different names before it
 pub new_name : (done : List (List ℕ)) (name : List ℕ) (more : List (List ℕ)) → Different (done ++ (name ∷ more)) → number_in done name ≡ None

@@ -90,9 +90,6 @@ before_later done t j k m h a b e = ⊎_elim (λ p. inl p) (λ p. let q = p.1 in
 pub before_next_base : (done : List Link) (t k : ℕ) → Before done t k → Before done t (k + 1)
 before_next_base done t k h = before_later done t k (k + 1) (omega arith) h
 
-pub before_next_type : (done : List Link) (t k : ℕ) → Before done t k → Before done (t + 1) 0
-before_next_type done t k h a b e = inl (⊎_elim (λ p. omega arith) (λ p. let q = p.0 in omega arith) (h a b e))
-
 pub before_more : (done : List Link) (t k : ℕ) → Before done t k → Before (done ++ (link t k ∷ [])) t (k + 1)
 before_more done t k h a b e =
     ⊎_elim

@@ -1,9 +1,9 @@
 -- The marked links of a settled register are its kept links.
-use Rattle.std.proofs.Common.{◌≡◌, ℕ, false, cond, eqb, List, [], ◌∷◌, length, get_or, take, is_err, Some, None, Option, Result, sym, refl, ap, ◌∙◌, subst}
+use Rattle.std.proofs.Common.{◌≡◌, ℕ, true, cond, eqb, List, [], ◌∷◌, length, get_or, take, is_ok, Some, None, Option, Result, sym, refl, ap, ◌∙◌, subst}
 use mathlib.Core.Logic.{∥∥₁_elim}
 use native.Mathlib.Nat.{ℕ_set}
 use Rattle.std.proofs.lemmas.List.{same_lists}
-use Rattle.std.proofs.lemmas.Bool.{true≢false}
+use Rattle.std.proofs.lemmas.Bool.{false≢true}
 use Rattle.descent.specs.declared.link.Link.{Link}
 use Rattle.rows.specs.KeptEntries.{marked, kept_of, kept_links}
 use Rattle.hierarchy.specs.Answering.{Answering}
@@ -32,15 +32,15 @@ pub record Prints (settled : Option ℕ) (c : Contents) (names : List (List ℕ)
   pub answers : (r : Result ℕ Short) → r ≡ print_answer (printed names (marked kept links)) (length out) → printed_or r ≡ answer_by settled c.entries (length out)
   pub writes : (after : List ℕ) → after ≡ out_after (printed names (marked kept links)) out → after ≡ output_by settled c.entries out
 
-prints_at : (settled : Option ℕ) (c : Contents) (out : List ℕ) → is_err (settled_answer settled) ≡ false → ∥ Answers settled c ∥₁ → Prints settled c c.entries.names c.written.kept c.entries.links out
+prints_at : (settled : Option ℕ) (c : Contents) (out : List ℕ) → is_ok (settled_answer settled) ≡ true → ∥ Answers settled c ∥₁ → Prints settled c c.entries.names c.written.kept c.entries.links out
 prints_at (Some count) c out ok x =
     let text : printed c.entries.names (marked c.written.kept c.entries.links) ≡ text_of c.entries = ap (printed c.entries.names) (marked-kept count (length c.entries.names) c.entries.links c.written.order c.written.chain c.written.position c.written.kept c.written.index x) in
     record {
       answers = λ r e. ap printed_or (e ∙ ap (λ t. print_answer t (length out)) text);
       writes = λ after e. e ∙ ap (λ t. out_after t out) text;
     }
-prints_at None c out ok x = absurd (true≢false ok)
+prints_at None c out ok x = absurd (false≢true ok)
 
-pub prints : (c : Contents) (names : List (List ℕ)) (kept : List ℕ) (links : List Link) (out : List ℕ) → is_err (settled_answer c.settled) ≡ false → ∥ Answers c.settled c ∥₁ → names ≡ c.entries.names → kept ≡ c.written.kept → links ≡ c.entries.links → Prints c.settled c names kept links out
+pub prints : (c : Contents) (names : List (List ℕ)) (kept : List ℕ) (links : List Link) (out : List ℕ) → is_ok (settled_answer c.settled) ≡ true → ∥ Answers c.settled c ∥₁ → names ≡ c.entries.names → kept ≡ c.written.kept → links ≡ c.entries.links → Prints c.settled c names kept links out
 prints c names kept links out ok x n k l =
     subst (λ ns. Prints c.settled c ns kept links out) (sym n) (subst (λ ks. Prints c.settled c c.entries.names ks links out) (sym k) (subst (λ ls. Prints c.settled c c.entries.names c.written.kept ls out) (sym l) (prints_at c.settled c out ok x)))

@@ -18,12 +18,8 @@ pub fn print_settled(register: &Register, out: &mut [u8]) -> Result<usize, Unpri
     ensures output { out.new ≡ output_after (contents_of register.now) out.old }
 {
     let numbered = register.numbered();
-    if numbered.settled_chains().is_err() {
-        return Err(Unprinted::NotSettled);
-    }
-    let links = &numbered.link_table()[0..numbered.link_count()];
-    match print(register.names(), links, numbered.kept(), out) {
-        Ok(bytes) => Ok(bytes),
-        Err(short) => Err(Unprinted::ShortOutput(short)),
-    }
+    numbered
+        .settled_chains()
+        .map_err(|_| Unprinted::NotSettled)?;
+    print(register.names(), numbered.links(), numbered.kept(), out).map_err(Unprinted::ShortOutput)
 }

@@ -5,7 +5,7 @@ ghost use Rattle.printout.specs.Numbers.{number_of};
 use printing::refusal::ShortOutput;
 
 /// Why nothing is printed.
-#[derive(Clone, Copy)]
+#[derive(Clone, Copy, Debug, PartialEq, Eq)]
 pub enum Unprinted {
     /// The book is not settled.
     NotSettled,

@@ -1,12 +1,12 @@
 -- What is shown of a text that is printed into an output of 8,192 bytes.
 use Rattle.std.proofs.Common.{◌≡◌, ℕ, ◌≤◌, Bool, true, false, cond, eqb, ltb, List, [], ◌∷◌, ◌++◌, length, take, drop, Ok, Err, sym, refl, ap, ◌∙◌, arith}
 use Rattle.std.proofs.lemmas.List.{take_at, length-append, length-drop, length-map}
-use Rattle.std.proofs.lemmas.Bool.{cond-false, ltb-false}
+use Rattle.std.proofs.lemmas.Bool.{cond-true, cond-false, ltb-false}
 use Rattle.descent.specs.declared.link.Link.{Link}
 use Rattle.rows.specs.KeptEntries.{kept_of, kept_links, marked}
 use Rattle.printing.specs.declared.refusal.ShortOutput.{ShortOutput}
 use Rattle.printing.specs.Printed.{print_answer, out_after}
-use Rattle.program.specs.Program.{shown_text}
+use Rattle.program.specs.Program.{shown_report, placeless, shown_text}
 
 -- entries past the links mark nothing
 marked_front : (entries rest : List ℕ) (links : List Link) → length entries ≡ length links → marked (entries ++ rest) links ≡ marked entries links
@@ -26,6 +26,14 @@ module _ (text before : List ℕ) (places : ℕ) (room : length before ≡ place
   fits_case true size short e = let z : ◌≡◌ {A = ℕ} 0 1 = cc in absurd (omega arith)
   fits_case false size short e = (refl, cc)
 
+  short_case : (b : Bool) (short full : ShortOutput) → Err short ≡ cond b (Err full) (Ok (length text)) → b ≡ true
+  short_case true short full e = refl
+  short_case false short full e = let z : ◌≡◌ {A = ℕ} 0 1 = cc in absurd (omega arith)
+
+  -- a text that is refused is too long
+  pub short_of : (short : ShortOutput) → Err short ≡ print_answer text places → ltb places (length text) ≡ true
+  short_of short e = short_case (ltb places (length text)) short _ e
+
   -- the front of the output, of the length that was answered, is the text
   pub printed_front : (size : ℕ) (after : List ℕ) → Ok size ≡ print_answer text places → after ≡ out_after text before → (ltb places (length text) ≡ false) × (take size after ≡ text) × (length after ≡ places)
   printed_front size after e o =
@@ -39,3 +47,6 @@ module _ (text before : List ℕ) (places : ℕ) (room : length before ≡ place
 
 pub text_shown : (text : List ℕ) → ltb 8192 (length text) ≡ false → text ≡ shown_text text
 text_shown text e = sym (cond-false _ _ _ e)
+
+pub text_short : (text : List ℕ) → ltb 8192 (length text) ≡ true → shown_report (placeless 18) ≡ shown_text text
+text_short text e = sym (cond-true _ _ _ e)

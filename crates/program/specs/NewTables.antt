@@ -1,21 +1,9 @@
--- The tables that the program makes, and a register with nothing entered over them.
-use Rattle.std.specs.Prelude.{◌≡◌, ℕ, vec_len}
+-- A register over tables of the sizes that the program makes, and one with nothing entered.
+use Rattle.std.specs.Prelude.{◌≡◌}
 use Rattle.hierarchy.specs.SettledBooks.{sizes, sizes_of}
-use Rattle.register.specs.declared.tables.Tables.{Tables}
 use Rattle.register.specs.Contents.{Contents}
 use Rattle.register.specs.Entries.{nothing}
 use Rattle.program.specs.Program.{places}
-
--- tables for so many types, links, bytes of names and index entries
-pub record NewTables (types links pool index : ℕ) (t : Tables) : Type 0 where
-  pub pool_size : vec_len t.pool ≡ pool
-  pub names_size : vec_len t.names ≡ types
-  pub links_size : vec_len t.links ≡ links
-  pub order_size : vec_len t.order ≡ types
-  pub chain_size : vec_len t.chain ≡ types
-  pub position_size : vec_len t.position ≡ types
-  pub kept_size : vec_len t.kept ≡ links
-  pub index_size : vec_len t.index ≡ index
 
 -- a register over tables of these sizes
 pub record OverTables (c : Contents) : Type 0 where

@@ -1,6 +1,6 @@
 -- What the program answers to an input: the text of the settled register, or what is refused.
-use Rattle.std.specs.Prelude.{ℕ, cond, List, [], ◌++◌, length, Ok, Err, codes, decimal, Result, nat_lt}
-use Rattle.texts.specs.declared.refusal.Report.{Report}
+use Rattle.std.specs.Prelude.{ℕ, cond, List, [], length, Ok, Err, Result, nat_lt}
+pub use Rattle.texts.specs.Refusals.{placeless, refused_line as shown_report}
 use Rattle.order.specs.Order.{order_of}
 use Rattle.rows.specs.KeptEntries.{kept_links}
 use Rattle.printing.specs.Printed.{printed}
@@ -8,14 +8,6 @@ use Rattle.register.specs.declared.refusal.Refusal.{Refusal}
 use Rattle.register.specs.Entries.{Entries, nothing, with_texts}
 use Rattle.register.specs.Places.{Room, room, load_answer}
 use Rattle.register.specs.Refusals.{report_of}
-
--- `refused N T L C` and byte 10
-abbrev pub shown_report : Report → List ℕ
-shown_report r = codes "refused " ++ (decimal r.number ++ (codes " " ++ (decimal r.text ++ (codes " " ++ (decimal r.line ++ (codes " " ++ (decimal r.column ++ codes "\n")))))))
-
--- a refusal that points to no place
-abbrev pub placeless : ℕ → Report
-placeless number = record { number = number; text = 0; line = 0; column = 0 }
 
 -- places for the bytes of the names, for types and for links
 abbrev pub places : Room

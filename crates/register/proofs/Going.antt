@@ -1,6 +1,6 @@
 -- A load under way: what is left to enter decides.
-use Rattle.std.proofs.Common.{◌≡◌, ℕ, ◌+◌, ◌<◌, ◌≤◌, List, [], ◌∷◌, map, length, get_or, drop, Some, None, Ok, Err, Option, Result, sym, refl, ap, ◌∙◌, arith, length-append}
-use Rattle.std.proofs.lemmas.List.{append-nil, at_drop_more}
+use Rattle.std.proofs.Common.{◌≡◌, ℕ, ◌+◌, ◌<◌, List, [], ◌∷◌, map, length, get_or, drop, None, Ok, Err, Option, Result, sym, ap, ◌∙◌, arith}
+use Rattle.std.proofs.lemmas.List.{at_drop_more}
 use Rattle.grammar.specs.declared.declaration.Name.{Name}
 use Rattle.grammar.specs.Declarations.{name_of}
 use Rattle.grammar.specs.Grammar.{Named}
@@ -13,11 +13,11 @@ use Rattle.register.specs.declared.refusal.Unloaded.{Unloaded}
 use Rattle.register.specs.declared.refusal.Unloaded.TheVariants.{Refused, NoMemory}
 use Rattle.register.specs.Entries.{Entries, entries, number_for, with_name, with_base, with_bases, with_names, with_lines, names_on}
 use Rattle.register.specs.Places.{first, no_base, no_bases, no_names, no_lines}
-use Rattle.register.specs.Contents.{Contents, changed}
+use Rattle.register.specs.Contents.{Contents, changed, unsettled}
 use Rattle.register.specs.Growing.{Grown, NameEnters, Enters, EntersUnless}
 use Rattle.texts.specs.declared.refusal.Place.{Place}
 use Rattle.register.proofs.Parts.{number_below}
-use Rattle.register.proofs.Growth.{grown_name, grown-base, grown_refl, grown_trans, grown_is}
+use Rattle.register.proofs.Growth.{grown_name, grown-base, grown_self, grown_trans, grown_is}
 
 pub grown_bases : (c : Contents) (e : Entries) (from : ℕ) (bases : List Named) → Grown c (changed c e) → Grown c (changed c (with_bases from e bases))
 grown_bases c e from [] g = g
@@ -31,38 +31,21 @@ pub grown_lines : (c : Contents) (e : Entries) (lines : List (List ℕ)) → Gro
 grown_lines c e [] g = g
 grown_lines c e (line ∷ lines) g = grown_lines c (with_names e (names_on (reading line))) lines (grown_names c e (names_on (reading line)) g)
 
-pub grown_self : (c : Contents) → Grown c (changed c c.entries)
-grown_self c = record { same = refl; more_names = []; names = sym (append-nil c.entries.names); more_links = []; links = sym (append-nil c.entries.links) }
-
-pub still_unsettled : {a b : Contents} → Grown a b → b.settled ≡ None
-still_unsettled g = ap (λ (x : Contents). x.settled) g.same
-
-pub more_entered : {a b : Contents} → Grown a b → length a.entries.names ≤ length b.entries.names
-more_entered {a} {b} g = omega (arith, ap length g.names, length-append a.entries.names g.more_names)
-
--- from the contents at the start: what then is missing and what all enters, by what is left now
+-- from the contents at the start: what then is missing and what all enters, by what is left now, settled or not
 pub record Going (start : Contents) (missing : Option Refusal) (all : Entries) (left : Contents → Option Refusal) (rest : Contents → Entries) (here : Contents) : Type 0 where
   pub grown : Grown start here
-  pub lacks : left here ≡ missing
-  pub enters : rest here ≡ all
+  pub lacks : left (unsettled here) ≡ missing
+  pub enters : rest (unsettled here) ≡ all
 
 module _ {start here next : Contents} {missing : Option Refusal} {all : Entries} (left left' : Contents → Option Refusal) (rest rest' : Contents → Entries) (lack : Option Refusal) (part : Entries) where
   -- a part was entered
-  pub going_on : Going start missing all left rest here → left here ≡ first lack (left' (changed here part)) → rest here ≡ rest' (changed here part) → Grown here (changed here part)
-      → lack ≡ None → next ≡ changed here part → Going start missing all left' rest' next
+  pub going_on : Going start missing all left rest here → left (unsettled here) ≡ first lack (left' (changed here part)) → rest (unsettled here) ≡ rest' (changed here part) → Grown here (changed here part)
+      → lack ≡ None → unsettled next ≡ changed here part → Going start missing all left' rest' next
   going_on g splits goes more none is = record {
     grown = grown_is is (grown_trans g.grown more);
     lacks = ap left' is ∙ sym (ap (λ o. first o (left' (changed here part))) none) ∙ sym splits ∙ g.lacks;
     enters = ap rest' is ∙ sym goes ∙ g.enters;
   }
-
-  -- a part found no place
-  pub going_off : Going start missing all left rest here → left here ≡ first lack (left' (changed here part)) → (refusal : Refusal) → lack ≡ Some refusal → Grown here next → (missing ≡ Some refusal) × Grown start next
-  going_off g splits refusal none more = (sym g.lacks ∙ splits ∙ ap (λ o. first o (left' (changed here part))) none, grown_trans g.grown more)
-
--- nothing is left
-pub going_done : {start here : Contents} {missing : Option Refusal} {all : Entries} {left : Contents → Option Refusal} {rest : Contents → Entries} → Going start missing all left rest here → left here ≡ None → rest here ≡ here.entries → (missing ≡ None) × (here ≡ changed start all)
-going_done {start} {here} g none whole = (sym g.lacks ∙ none, g.grown.same ∙ ap (changed start) (sym whole ∙ g.enters))
 
 -- what bases, and lines from number k on, lack and enter
 abbrev pub bases_lack : Source → ℕ → ℕ → List Name → Contents → Option Refusal
@@ -83,7 +66,7 @@ bases_split source line from bases i d h here = at_drop_more (λ bs. bases_lack 
 module _ (source : Source) (line from : ℕ) (bases : List Name) (i : ℕ) (d : Name) (h : i < length bases) {start here next : Contents} {missing : Option Refusal} {all : Entries} where
   pub bases_on : Going start missing all (bases_lack source line from (drop i bases)) (bases_enter from (drop i bases)) here
       → no_base here.room from here.entries (name_of (get_or bases i d)).bytes (place source line (name_of (get_or bases i d)).column) ≡ None
-      → next ≡ changed here (with_base from here.entries (name_of (get_or bases i d)).bytes)
+      → unsettled next ≡ changed here (with_base from here.entries (name_of (get_or bases i d)).bytes)
       → Going start missing all (bases_lack source line from (drop (i + 1) bases)) (bases_enter from (drop (i + 1) bases)) next
   bases_on g none is =
       going_on (bases_lack source line from (drop i bases)) (bases_lack source line from (drop (i + 1) bases)) (bases_enter from (drop i bases)) (bases_enter from (drop (i + 1) bases))
@@ -91,20 +74,11 @@ module _ (source : Source) (line from : ℕ) (bases : List Name) (i : ℕ) (d : 
       (with_base from here.entries (name_of (get_or bases i d)).bytes)
       g (bases_split source line from bases i d h here) (at_drop_more (λ bs. bases_enter from bs here) bases i d h) (grown-base here from (name_of (get_or bases i d)).bytes) none is
 
-  pub bases_off : Going start missing all (bases_lack source line from (drop i bases)) (bases_enter from (drop i bases)) here → (refusal : Refusal)
-      → no_base here.room from here.entries (name_of (get_or bases i d)).bytes (place source line (name_of (get_or bases i d)).column) ≡ Some refusal
-      → Grown here next → (missing ≡ Some refusal) × Grown start next
-  bases_off g refusal none more =
-      going_off (bases_lack source line from (drop i bases)) (bases_lack source line from (drop (i + 1) bases)) (bases_enter from (drop i bases)) (bases_enter from (drop (i + 1) bases))
-      (no_base here.room from here.entries (name_of (get_or bases i d)).bytes (place source line (name_of (get_or bases i d)).column))
-      (with_base from here.entries (name_of (get_or bases i d)).bytes)
-      g (bases_split source line from bases i d h here) refusal none more
-
 -- the first name of a line found no place
-pub name_off : (start after : Contents) (source : Source) (line : ℕ) (name : Named) (bases : List Named) (refusal : Refusal) → start.settled ≡ None → NameEnters start name.bytes (place source line name.column) (Err refusal) after
+pub name_off : (start after : Contents) (source : Source) (line : ℕ) (name : Named) (bases : List Named) (refusal : Refusal) → NameEnters start name.bytes (place source line name.column) (Err refusal) after
     → Enters (no_names start.room source line start.entries (name ∷ bases)) (with_names start.entries (name ∷ bases)) start (Err refusal) after
-name_off start after source line name bases refusal unsettled h =
-    (ap (λ o. first o (no_bases start.room source line (number_for start.entries.names name.bytes) (entries (with_name start.entries.names name.bytes) start.entries.links) bases)) h.0, grown_is h.1 (grown_refl start unsettled))
+name_off start after source line name bases refusal h =
+    (ap (λ o. first o (no_bases start.room source line (number_for start.entries.names name.bytes) (entries (with_name start.entries.names name.bytes) start.entries.links) bases)) h.0, grown_is (ap unsettled h.1) (grown_self start))
 
 -- it was entered, and so were, or not, the bases
 pub names_then : (start middle after : Contents) (source : Source) (line number : ℕ) (name : Named) (bases : List Named) (r : Result (Unit {0}) Refusal)
@@ -128,38 +102,23 @@ names_then start middle after source line number name bases (Err refusal) h g =
       grown_trans (grown_is m (grown_name start name.bytes)) g.1,
     )
 
--- what the bases ask for
-pub name_first : (start after : Contents) (bytes : List ℕ) (at : Place) (number : ℕ) → NameEnters start bytes at (Ok number) after → (after.settled ≡ None) × (number < length after.entries.names)
-name_first start after bytes at number h = (ap (λ (c : Contents). c.settled) h.2, omega (arith, h.1, number_below start.entries.names bytes, ap (λ (c : Contents). length c.entries.names) h.2))
+-- it is below the number of names then
+pub name_first : (start after : Contents) (bytes : List ℕ) (at : Place) (number : ℕ) → NameEnters start bytes at (Ok number) after → number < length after.entries.names
+name_first start after bytes at number h = omega (arith, h.1, number_below start.entries.names bytes, ap (λ (c : Contents). length c.entries.names) h.2)
 
 module _ (source : Source) (number : ℕ) (lines : List (List ℕ)) (line : List ℕ) (more : List (List ℕ)) (step : lines ≡ line ∷ more) {start here : Contents} (next : Contents) {missing : Option Refusal} {all : Entries} where
   -- a line was entered
   pub lines_on : Going start missing all (lines_lack source number lines) (lines_enter lines) here
       → no_names here.room source number here.entries (names_on (reading line)) ≡ None
-      → next ≡ changed here (with_names here.entries (names_on (reading line)))
+      → unsettled next ≡ changed here (with_names here.entries (names_on (reading line)))
       → Going start missing all (lines_lack source (number + 1) more) (lines_enter more) next
   lines_on g none is =
       going_on (lines_lack source number lines) (lines_lack source (number + 1) more) (lines_enter lines) (lines_enter more)
       (no_names here.room source number here.entries (names_on (reading line))) (with_names here.entries (names_on (reading line)))
       g (ap (λ ls. lines_lack source number ls here) step) (ap (λ ls. lines_enter ls here) step) (grown_names here here.entries (names_on (reading line)) (grown_self here)) none is
 
-  -- a line was not
-  pub lines_off : Going start missing all (lines_lack source number lines) (lines_enter lines) here → (x : Unloaded)
-      → EntersUnless (no_names here.room source number here.entries (names_on (reading line))) (with_names here.entries (names_on (reading line))) here (Err x) next
-      → EntersUnless missing all start (Err x) next
-  lines_off g (Refused refusal) h =
-      going_off (lines_lack source number lines) (lines_lack source (number + 1) more) (lines_enter lines) (lines_enter more)
-      (no_names here.room source number here.entries (names_on (reading line))) (with_names here.entries (names_on (reading line)))
-      g (ap (λ ls. lines_lack source number ls here) step) refusal h.0 h.1
-  lines_off g NoMemory h = grown_trans g.grown h
-
--- both texts: the first was not entered; or it was, and the second was or was not
-pub texts-off : (start after : Contents) (lack : Option Refusal) (part : Entries) (next : Option Refusal) (all : Entries) (x : Unloaded) → EntersUnless lack part start (Err x) after → EntersUnless (first lack next) all start (Err x) after
-texts-off start after lack part next all (Refused refusal) h = (ap (λ o. first o next) h.0, h.1)
-texts-off start after lack part next all NoMemory h = h
-
 pub texts-then : (start middle after : Contents) (lack : Option Refusal) (shipped own : List (List ℕ)) (r : Result (Unit {0}) Unloaded)
-    → lack ≡ None → middle ≡ changed start (with_lines start.entries shipped)
+    → lack ≡ None → unsettled middle ≡ changed start (with_lines start.entries shipped)
     → EntersUnless (lines_lack Own 1 own middle) (lines_enter own middle) middle r after
     → EntersUnless (first lack (lines_lack Own 1 own (changed start (with_lines start.entries shipped)))) (lines_enter own (changed start (with_lines start.entries shipped))) start r after
 texts-then start middle after lack shipped own (Ok u) none is h = (

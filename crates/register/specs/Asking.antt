@@ -3,6 +3,7 @@ use Rattle.std.specs.Prelude.{ℕ, Bool, List, Some, None, Ok, Err, Option, Resu
 use Rattle.descent.specs.declared.link.Link.{Link}
 use Rattle.descent.specs.Computed.{descends}
 use Rattle.names.specs.Finding.{number_in}
+use Rattle.register.specs.declared.refusal.Which.TheVariants.{First, Second}
 use Rattle.register.specs.declared.refusal.NotAsked.{NotAsked}
 use Rattle.register.specs.declared.refusal.NotAsked.TheVariants.{NotSettled, Unknown}
 use Rattle.register.specs.Contents.{Contents}
@@ -10,8 +11,8 @@ use Rattle.register.specs.Contents.{Contents}
 -- the numbers of two names, or which is the first unknown one
 abbrev pub numbers_found : Option ℕ → Option ℕ → Result (ℕ × ℕ) NotAsked
 numbers_found (Some a) (Some b) = Ok (a, b)
-numbers_found (Some a) None = Err (Unknown 2)
-numbers_found None b = Err (Unknown 1)
+numbers_found (Some a) None = Err (Unknown Second)
+numbers_found None b = Err (Unknown First)
 
 -- the register is settled, and both names are types
 abbrev pub numbers_answer : {X : Type 0} → Option X → List (List ℕ) → List ℕ → List ℕ → Result (ℕ × ℕ) NotAsked

@@ -8,6 +8,7 @@ use Rattle.hierarchy.specs.Answering.{Answering}
 use Rattle.hierarchy.specs.Entering.{links_in, left_answer}
 use Rattle.names.specs.Held.{names_in, pool_size, table_size}
 use Rattle.register.specs.declared.register.Register.{Register}
+use Rattle.register.specs.declared.tables.TableSizes.{TableSizes}
 use Rattle.register.specs.declared.refusal.Refusal.{Refusal}
 use Rattle.register.specs.declared.refusal.Unloaded.{Unloaded}
 use Rattle.register.specs.declared.refusal.Unloaded.TheVariants.{Refused, NoMemory}
@@ -33,15 +34,19 @@ contents_of r =
     (entries (names_in r.names) (links_in book.held)) book.written book.settled
 
 -- a register with nothing entered, over tables of these lengths
-abbrev pub new_contents : ℕ → ℕ → ℕ → ℕ → ℕ → ℕ → ℕ → ℕ → ℕ → Contents
-new_contents number pool names links order chain position kept index =
-    contents number (room pool names links) nothing
-    (record { order = replicate order 65535; chain = replicate chain 65535; position = replicate position 65535; kept = replicate kept 65535; index = replicate index 65535 })
+abbrev pub new_contents : ℕ → TableSizes → Contents
+new_contents number t =
+    contents number (room t.pool t.names t.links) nothing
+    (record { order = replicate t.order 65535; chain = replicate t.chain 65535; position = replicate t.position 65535; kept = replicate t.kept 65535; index = replicate t.index 65535 })
     None
 
 -- other entries, and not settled
 abbrev pub changed : Contents → Entries → Contents
 changed c e = contents c.number c.room e c.written None
+
+-- the same, and not settled
+abbrev pub unsettled : Contents → Contents
+unsettled c = changed c c.entries
 
 -- an accepted load enters what its lines enter; a refused one changes nothing at all
 abbrev pub after_load : Contents → List ℕ → List ℕ → Result (Unit {0}) Refusal → Contents

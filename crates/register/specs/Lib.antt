@@ -5,3 +5,4 @@ pub mod Contents
 pub mod Growing
 pub mod Settling
 pub mod Asking
+pub mod Tables

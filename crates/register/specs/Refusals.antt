@@ -1,10 +1,12 @@
 -- The numbers of each refusal, and the values that it returns.
-use Rattle.std.specs.Prelude.{ℕ}
+use Rattle.std.specs.Prelude.{ℕ, Some, None}
 use Rattle.texts.specs.declared.refusal.Place.{Place}
 use Rattle.texts.specs.declared.refusal.Report.{Report}
 use Rattle.texts.specs.Refusals.{refusal_number, place_of as text_place, text_number}
 use Rattle.register.specs.declared.refusal.Refusal.{Refusal}
 use Rattle.register.specs.declared.refusal.Refusal.TheVariants.{Text, NoTypePlace, NoBytePlace, NoLinkPlace}
+use Rattle.register.specs.declared.refusal.Which.{Which}
+use Rattle.register.specs.declared.refusal.Which.TheVariants.{First, Second}
 use Rattle.register.specs.declared.refusal.NotAsked.{NotAsked}
 use Rattle.register.specs.declared.refusal.NotAsked.TheVariants.{NotSettled, Unknown}
 use Rattle.register.specs.declared.refusal.Report.{Report as AskReport}
@@ -25,7 +27,12 @@ place_of (NoLinkPlace at) = at
 abbrev pub report_of : Refusal → Report
 report_of r = record { number = number_of r; text = text_number (place_of r).source; line = (place_of r).line; column = (place_of r).column }
 
--- its number, and which of the two names is unknown; 0 where none is
+-- 1 for the first name, 2 for the second
+abbrev pub which_number : Which → ℕ
+which_number First = 1
+which_number Second = 2
+
+-- its number, and which of the two names is unknown, where one is
 abbrev pub ask_report_of : NotAsked → AskReport
-ask_report_of NotSettled = record { number = 12; which = 0 }
-ask_report_of (Unknown which) = record { number = 13; which = which }
+ask_report_of NotSettled = record { number = 12; which = None }
+ask_report_of (Unknown which) = record { number = 13; which = Some which }

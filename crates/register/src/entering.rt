@@ -15,8 +15,28 @@ use names::refusal::{Entry, Refusal as NameRefusal};
 use std::alloc::Global;
 use texts::refusal::{Place, Source};
 
+// A line of one of the two texts, by its number.
+#[derive(Clone, Copy)]
+pub(crate) struct Line {
+    pub(crate) source: Source,
+    pub(crate) number: usize,
+}
+
+impl Line {
+    // The place on it at a column.
+    fn at(self, column: usize) -> Place
+        ensures { result ≡ place self.source self.number column }
+    {
+        Place {
+            source: self.source,
+            line: self.number,
+            column,
+        }
+    }
+}
+
 // The refusal of a name that stands at a place.
-fn without_place(refusal: NameRefusal, at: Place) -> Refusal
+fn refusal_at(refusal: NameRefusal, at: Place) -> Refusal
     ensures { name_refusal at (Err refusal) ≡ Some result }
 {
     match refusal {
@@ -28,54 +48,36 @@ fn without_place(refusal: NameRefusal, at: Place) -> Refusal
 impl Register {
     // Enters a name, and answers its number.
     fn enter_name(&mut self, bytes: &[u8], at: Place) -> Result<u16, Refusal>
-        requires unsettled { (contents_of self.old).settled ≡ None }
         ensures { NameEnters (contents_of self.old) bytes.now at result (contents_of self.new) }
     {
-        let entry = match self.names.enter(bytes) {
-            Ok(entry) => entry,
-            Err(refusal) => return Err(without_place(refusal, at)),
-        };
-        match entry {
+        let entered = self.names.enter(bytes);
+        match entered.map_err(|refusal| refusal_at(refusal, at))? {
             Entry::Known(number) => Ok(number),
-            Entry::New(number) => match self.numbered.enter_type() {
-                Ok(_) => Ok(number),
-                Err(_) => unreachable(),
-            },
+            Entry::New(number) => {
+                self.numbered.enter_type().unwrap();
+                Ok(number)
+            }
         }
     }
 
     // Enters a base: its name, and the link to it. Both ends are types then, so that only a place can be wanting.
     fn enter_base(&mut self, from: u16, base: &[u8], at: Place) -> Result<(), Refusal>
-        requires unsettled { (contents_of self.old).settled ≡ None }
-        requires entered { from < length (contents_of self.old).entries.names }
+        requires { from < length (contents_of self.old).entries.names }
         ensures { Enters (no_base (contents_of self.old).room from (contents_of self.old).entries base.now at) (with_base from (contents_of self.old).entries base.now) (contents_of self.old) result (contents_of self.new) }
     {
         let to = self.enter_name(base, at)?;
-        match self.numbered.enter_link(from, to) {
-            Ok(_) => Ok(()),
-            Err(_) => Err(Refusal::NoLinkPlace(at)),
-        }
+        let entered = self.numbered.enter_link(from, to);
+        entered.map_err(|_| Refusal::NoLinkPlace(at))?;
+        Ok(())
     }
 
     // Enters the bases of a line in turn.
-    fn enter_bases(
-        &mut self,
-        from: u16,
-        bases: &[Name],
-        source: Source,
-        line: usize,
-    ) -> Result<(), Refusal>
-        requires unsettled { (contents_of self.old).settled ≡ None }
-        requires entered { from < length (contents_of self.old).entries.names }
-        ensures { Enters (no_bases (contents_of self.old).room source line from (contents_of self.old).entries (map name_of bases.now)) (with_bases from (contents_of self.old).entries (map name_of bases.now)) (contents_of self.old) result (contents_of self.new) }
+    fn enter_bases(&mut self, from: u16, bases: &[Name], line: Line) -> Result<(), Refusal>
+        requires { from < length (contents_of self.old).entries.names }
+        ensures { Enters (no_bases (contents_of self.old).room line.source line.number from (contents_of self.old).entries (map name_of bases.now)) (with_bases from (contents_of self.old).entries (map name_of bases.now)) (contents_of self.old) result (contents_of self.new) }
     {
         for base in bases {
-            let at = Place {
-                source,
-                line,
-                column: base.column,
-            };
-            self.enter_base(from, base.bytes, at)?;
+            self.enter_base(from, base.bytes, line.at(base.column))?;
         }
         Ok(())
     }
@@ -84,18 +86,12 @@ impl Register {
     pub(crate) fn enter_declaration(
         &mut self,
         declaration: &Declaration,
-        source: Source,
-        line: usize,
+        line: Line,
     ) -> Result<(), Refusal>
-        requires unsettled { (contents_of self.old).settled ≡ None }
-        ensures { Enters (no_names (contents_of self.old).room source line (contents_of self.old).entries (names_of declaration.now)) (with_names (contents_of self.old).entries (names_of declaration.now)) (contents_of self.old) result (contents_of self.new) }
+        ensures { Enters (no_names (contents_of self.old).room line.source line.number (contents_of self.old).entries (names_of declaration.now)) (with_names (contents_of self.old).entries (names_of declaration.now)) (contents_of self.old) result (contents_of self.new) }
     {
-        let at = Place {
-            source,
-            line,
-            column: declaration.name.column,
-        };
-        let from = self.enter_name(declaration.name.bytes, at)?;
-        self.enter_bases(from, &declaration.bases, source, line)
+        let name = declaration.name;
+        let from = self.enter_name(name.bytes, line.at(name.column))?;
+        self.enter_bases(from, &declaration.bases, line)
     }
 }

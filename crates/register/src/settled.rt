@@ -4,10 +4,10 @@ ghost use Rattle.register.specs.Asking.{numbers_of, ask_answer};
 ghost use Rattle.register.specs.Contents.{contents_of};
 ghost use Rattle.register.specs.Settling.{Settles};
 
-use crate::refusal::NotAsked;
+use crate::refusal::{NotAsked, Which};
 use crate::register::Register;
 use chains::decomposer::Decomposer;
-use descent::answerer::Answerer;
+use descent::answerer::ask;
 use settling::outcome::{Settled, Unsettled};
 
 impl Register {
@@ -27,14 +27,16 @@ impl Register {
     pub fn numbers(&self, first: &[u8], second: &[u8]) -> Result<(u16, u16), NotAsked>
         ensures { result ≡ numbers_of (contents_of self.now) first.now second.now }
     {
-        if self.numbered.settled_chains().is_err() {
-            return Err(NotAsked::NotSettled);
-        }
+        self.numbered.settled_chains()?;
         let Some(a) = self.names.find(first) else {
-            return Err(NotAsked::Unknown { which: 1 });
+            return Err(NotAsked::Unknown {
+                which: Which::First,
+            });
         };
         let Some(b) = self.names.find(second) else {
-            return Err(NotAsked::Unknown { which: 2 });
+            return Err(NotAsked::Unknown {
+                which: Which::Second,
+            });
         };
         Ok((a, b))
     }
@@ -43,11 +45,8 @@ impl Register {
     pub fn ask(&self, first: &[u8], second: &[u8]) -> Result<bool, NotAsked>
         ensures { result ≡ ask_answer (contents_of self.now) first.now second.now }
     {
+        let mut index = self.numbered.settled_index()?;
         let (a, b) = self.numbers(first, second)?;
-        let mut index = self.numbered.chain_index();
-        match index.related(a, b) {
-            Ok(descends) => Ok(descends),
-            Err(_) => unreachable(),
-        }
+        Ok(ask(&mut index, a, b))
     }
 }

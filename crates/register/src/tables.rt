@@ -1,9 +1,10 @@
 // Making a register over the host's tables, reading them, and giving them back.
-ghost use Rattle.std.specs.Prelude.{◌≡◌, vec_len};
+ghost use Rattle.std.specs.Prelude.{◌≡◌, IfOk};
 ghost use Rattle.hierarchy.specs.Books.{book_of};
 ghost use Rattle.names.specs.Held.{names_in, pool_size, table_size};
 ghost use Rattle.names.specs.Tables.{pool_of, spans_of};
 ghost use Rattle.register.specs.Contents.{contents_of, new_contents};
+ghost use Rattle.register.specs.Tables.{lengths_of, of_counts};
 
 use crate::register::Register;
 use descent::link::Link;
@@ -11,38 +12,83 @@ use hierarchy::book::Hierarchy;
 use hierarchy::tables::Tables as NumberTables;
 use names::names::Names;
 use names::span::Span;
+use std::alloc::{AllocError, Global};
 
-/// The tables of a register: bytes and spans of the names, links, and what settling writes.
+/// The tables of a register: bytes and spans of the names, and the tables of the numbered book.
 #[derive(Drop)]
 pub struct Tables {
     pub pool: Vec<u8>,
     pub names: Vec<Span>,
-    pub links: Vec<Link>,
-    pub order: Vec<u16>,
-    pub chain: Vec<u16>,
-    pub position: Vec<u16>,
-    pub kept: Vec<u16>,
-    pub index: Vec<u16>,
+    pub numbered: NumberTables,
+}
+
+/// How many entries the tables of a register have.
+#[derive(Clone, Copy, Debug, PartialEq, Eq)]
+pub struct TableSizes {
+    pub pool: usize,
+    pub names: usize,
+    pub links: usize,
+    pub order: usize,
+    pub chain: usize,
+    pub position: usize,
+    pub kept: usize,
+    pub index: usize,
+}
+
+impl TableSizes {
+    /// The sizes for so many types and links: order, chain and position have an entry for each type, kept one for each link.
+    pub fn of_counts(types: usize, links: usize, pool: usize, index: usize) -> TableSizes
+        ensures { result ≡ of_counts types links pool index }
+    {
+        TableSizes {
+            pool,
+            names: types,
+            links,
+            order: types,
+            chain: types,
+            position: types,
+            kept: links,
+            index,
+        }
+    }
+}
+
+impl Tables {
+    /// Tables of these sizes.
+    pub fn with_sizes(heap: Global, sizes: TableSizes) -> Result<Tables, AllocError>
+        ensures { IfOk result (λ tables. lengths_of tables ≡ sizes) }
+    {
+        Ok(Tables {
+            pool: vec![in heap; 0u8; sizes.pool]?,
+            names: vec![in heap; Span {
+                start: 0,
+                length: 0
+            }; sizes.names]?,
+            numbered: NumberTables {
+                links: vec![in heap; Link { from: 0, to: 0 }; sizes.links]?,
+                order: vec![in heap; 0u16; sizes.order]?,
+                chain: vec![in heap; 0u16; sizes.chain]?,
+                position: vec![in heap; 0u16; sizes.position]?,
+                kept: vec![in heap; 0u16; sizes.kept]?,
+                index: vec![in heap; 0u16; sizes.index]?,
+            },
+        })
+    }
 }
 
 impl Register {
     /// A register with nothing entered over these tables: sets pool, names and links to 0 and the others to 65,535 throughout.
     pub fn new(number: u32, tables: Tables) -> Register
-        ensures { contents_of result ≡ new_contents number (vec_len tables.pool) (vec_len tables.names) (vec_len tables.links) (vec_len tables.order) (vec_len tables.chain) (vec_len tables.position) (vec_len tables.kept) (vec_len tables.index) }
+        ensures { contents_of result ≡ new_contents number (lengths_of tables) }
     {
         let Tables {
             pool,
             names,
-            links,
-            order,
-            chain,
-            position,
-            kept,
-            index,
+            numbered,
         } = tables;
         let room = names.len();
         let names = Names::new(pool, names);
-        let numbered = Hierarchy::new(number, room, links, order, chain, position, kept, index);
+        let numbered = Hierarchy::new(number, room, numbered);
         Register { names, numbered }
     }
 
@@ -64,32 +110,40 @@ impl Register {
     pub fn into_tables(self) -> Tables
         ensures pool { result.pool.items ≡ pool_of (contents_of self).entries.names (contents_of self).room.pool }
         ensures names { result.names.items ≡ spans_of (contents_of self).entries.names (contents_of self).room.names }
-        ensures links { result.links.items ≡ (book_of self.numbered).held.table }
-        ensures order { result.order.items ≡ (contents_of self).written.order }
-        ensures chain { result.chain.items ≡ (contents_of self).written.chain }
-        ensures position { result.position.items ≡ (contents_of self).written.position }
-        ensures kept { result.kept.items ≡ (contents_of self).written.kept }
-        ensures index { result.index.items ≡ (contents_of self).written.index }
+        ensures links { result.numbered.links.items ≡ (book_of self.numbered).held.table }
+        ensures order { result.numbered.order.items ≡ (contents_of self).written.order }
+        ensures chain { result.numbered.chain.items ≡ (contents_of self).written.chain }
+        ensures position { result.numbered.position.items ≡ (contents_of self).written.position }
+        ensures kept { result.numbered.kept.items ≡ (contents_of self).written.kept }
+        ensures index { result.numbered.index.items ≡ (contents_of self).written.index }
     {
         let Register { names, numbered } = self;
         let (pool, names) = names.into_tables();
-        let NumberTables {
-            links,
-            order,
-            chain,
-            position,
-            kept,
-            index,
-        } = numbered.into_tables();
+        let numbered = numbered.into_tables();
         Tables {
             pool,
             names,
-            links,
-            order,
-            chain,
-            position,
-            kept,
-            index,
+            numbered,
         }
+    }
+}
+
+#[cfg(test)]
+mod tests {
+    use super::*;
+
+    #[test]
+    fn tables_are_made(rt: HostRuntime) {
+        let sizes = TableSizes {
+            pool: 64,
+            names: 8,
+            links: 16,
+            order: 8,
+            chain: 8,
+            position: 8,
+            kept: 16,
+            index: 32,
+        };
+        assert!(rt; Tables::with_sizes(rt.alloc(), sizes).is_ok());
     }
 }

@@ -13,10 +13,8 @@ impl Register {
         ensures after { contents_of self.new ≡ after_back (contents_of self.old) types links result }
     {
         self.numbered.take_back(types, links)?;
-        match self.names.take_back(types) {
-            Ok(()) => Ok(()),
-            Err(_) => unreachable(),
-        }
+        self.names.take_back(types).unwrap();
+        Ok(())
     }
 
     // Takes back what came in since there were so many types and links, and is settled as it was then.
@@ -27,9 +25,7 @@ impl Register {
         requires answering { ∥ Answers chains (changed (contents_of self.old) (first_of types links (contents_of self.old).entries)) ∥₁ }
         ensures { contents_of self.new ≡ with_chains (changed (contents_of self.old) (first_of types links (contents_of self.old).entries)) chains }
     {
-        match self.take_back(types, links) {
-            Ok(()) => self.numbered.resettle(chains),
-            Err(_) => unreachable(),
-        }
+        self.take_back(types, links).unwrap();
+        self.numbered.resettle(chains)
     }
 }

@@ -1,3 +1,4 @@
+pub mod LaidOut
 pub mod Layouts
 pub mod Lowests
 pub mod RowPlaces

@@ -1,5 +1,5 @@
 -- Loops over one row: what is written to its first entries, and that nothing else changes.
-use Rattle.std.proofs.Common.{◌≡◌, ℕ, ◌+◌, ◌<◌, List, length, get_or, set, sym, refl, ap, ◌∙◌, ⊎_elim, arith}
+use Rattle.std.proofs.Common.{◌≡◌, ℕ, ◌+◌, ◌<◌, List, length, get_or, set, sym, ap, ◌∙◌, ⊎_elim, arith}
 use Rattle.std.proofs.lemmas.List.{get_or-set_same, get_or-set_other}
 use Rattle.std.proofs.lemmas.Bool.{cases_eq}
 
@@ -8,9 +8,6 @@ abbrev pub Written : List ℕ → List ℕ → ℕ → (ℕ → ℕ) → ℕ →
 Written before after to value c =
     ((k : ℕ) → k < c → get_or after (to + k) 0 ≡ value k)
     × ((j : ℕ) → ((k : ℕ) → k < c → j ≡ to + k → ⊥) → get_or after j 0 ≡ get_or before j 0)
-
-pub written_none : (before : List ℕ) (to : ℕ) (value : ℕ → ℕ) → Written before before to value 0
-written_none before to value = ((λ k h. let none : ⊥ = omega arith in absurd none), (λ j _. refl))
 
 pub written_more : (before now : List ℕ) (to : ℕ) (value : ℕ → ℕ) (c v : ℕ) → to + c < length now → v ≡ value c → Written before now to value c → Written before (set now (to + c) v) to value (c + 1)
 written_more before now to value c v room e (done, rest) = (

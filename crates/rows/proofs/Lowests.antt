@@ -35,13 +35,6 @@ module _ (n : ℕ) (chains positions : List ℕ) where
       half : (u v : ℕ) → Lowest n chains positions R c u → Lowest n chains positions R c v → u ≤ v
       half u v m k = ⊎_elim (λ e. omega (arith, m.bound)) (λ x. omega (arith, m.low x.0 x.1 x.2 x.4, x.3)) k.hit
 
-  pub lowest_none : (R : ℕ → Type 0) (c : ℕ) → ((b : ℕ) → b < n → get_or chains b 0 ≡ c → R b → ⊥) → Lowest n chains positions R c 65535
-  lowest_none R c none = record {
-    bound = omega arith;
-    low = λ b h e r. absurd (none b h e r);
-    hit = inl refl;
-  }
-
 module _ (chains positions : List ℕ) (R : ℕ → Type 0) (test : ℕ → Bool) (decides : (b : ℕ) → Decides (test b) (R b)) (c : ℕ) where
   low_step : (n p v : ℕ) → ((get_or chains n 0 ≡ c) × R n → p ≤ get_or positions n 0) → p ≤ 65535 → (p ≡ 65535) ⊎ ((get_or chains n 0 ≡ c) × (get_or positions n 0 ≡ p) × R n)
       → Lowest n chains positions R c v → Lowest (suc n) chains positions R c (min p v)

@@ -1,13 +1,14 @@
 -- The pass in falling rank: what stands when the types of rank r and above are done.
-use Rattle.std.proofs.Common.{◌≡◌, ℕ, ◌+◌, ◌-◌, ◌*◌, ◌<◌, ◌≤◌, List, length, get_or, take, drop, sym, refl, ap, ◌∙◌, subst, ⊎_elim, arith}
-use Rattle.std.proofs.lemmas.List.{ext_get_or, length-drop, get_or-drop, length-take-le, get_or-take, length-map, get_or-map}
+use Rattle.std.proofs.Common.{◌≡◌, ℕ, ◌+◌, ◌-◌, ◌*◌, ◌<◌, ◌≤◌, List, [], ◌∷◌, ◌++◌, length, get_or, take, drop, sym, refl, ap, ◌∙◌, subst, ⊎_elim, arith}
+use Rattle.std.proofs.lemmas.List.{ext_get_or, length-drop, get_or-drop, length-take-le, get_or-take, get_or_push, take_at, take-take, length-append, length-map, get_or-map}
 use Rattle.std.proofs.lemmas.Bool.{cases_eq}
 use Rattle.descent.specs.Links.{no_link, Linked, Descends}
 use Rattle.rows.specs.declared.layout.Layout.{Layout}
 use Rattle.rows.specs.KeptEntries.{kept_entry, kept_of}
-use Rattle.rows.specs.Layouts.{links_in, Laid, from_of, to_of, rank_in}
+use Rattle.rows.specs.Layouts.{links_in, from_of, to_of, rank_in}
 use Rattle.rows.specs.Rows.{rows_of}
 use Rattle.rows.specs.Steps.{Whole, Outside, KeptFrom}
+use Rattle.rows.proofs.LaidOut.{Laid}
 use Rattle.rows.proofs.Answering.{entry_lowest}
 use Rattle.rows.proofs.Lowests.{lowest_one}
 use Rattle.rows.proofs.RowPlaces.{row_fits, all_rows_stand}
@@ -19,6 +20,17 @@ drop_same n xs ys long same =
     ext_get_or 0 (drop n xs) (drop n ys) (length-drop n xs ∙ ap (λ (m : ℕ). m - n) long ∙ sym (length-drop n ys))
     (λ i h. get_or-drop n xs i 0 ∙ same (n + i) (omega arith) ∙ sym (get_or-drop n ys i 0))
 
+-- the last of what is left of a list, and what is then left
+pub last_left : (xs left whole : List ℕ) (x : ℕ) → whole ≡ left ++ x ∷ [] → whole ≡ take (length whole) xs
+    → (length whole ≡ length left + 1) × (x ≡ get_or xs (length left) 0) × (left ≡ take (length left) xs)
+last_left xs left whole x e f =
+    let n = length left in
+    let long : length whole ≡ n + 1 = ap length e ∙ length-append left (x ∷ []) in (
+      long,
+      sym (get_or_push left x 0 n refl) ∙ ap (λ (l : List ℕ). get_or l n 0) (sym e ∙ f) ∙ get_or-take (length whole) xs n 0 (omega arith),
+      sym (take_at left (x ∷ []) n refl) ∙ ap (take n) (sym e ∙ f) ∙ take-take n (length whole) xs (omega arith),
+    )
+
 pub record Passed (layout : Layout) (r : ℕ) (kept_before kept before index : List ℕ) : Type 0 where
   pub rows : (a : ℕ) → a < layout.types → r ≤ rank_in layout a → Whole layout index a
   pub rows_rest : (j : ℕ) → layout.types * layout.chains ≤ j → get_or index j 0 ≡ get_or before j 0
@@ -26,14 +38,6 @@ pub record Passed (layout : Layout) (r : ℕ) (kept_before kept before index : L
   pub entries_rest : (i : ℕ) → length (links_in layout) ≤ i → get_or kept i 0 ≡ get_or kept_before i 0
 
 module _ {layout : Layout} (laid : Laid layout) (kept_before before : List ℕ) where
-  pub passed_none : Passed layout layout.types kept_before kept_before before before
-  passed_none = record {
-    rows = λ a h le. let none : ⊥ = omega (arith, (laid.ranked.ranks a h).0) in absurd none;
-    rows_rest = λ j h. refl;
-    entries = λ i h le. let none : ⊥ = omega (arith, (laid.ranked.ranks (from_of layout i) (laid.ranked.within i h).0).0) in absurd none;
-    entries_rest = λ i h. refl;
-  }
-
   module _ (r : ℕ) (below : r < layout.types) (kept index : List ℕ) (passed : Passed layout (r + 1) kept_before kept before index) where
     abbrev t : ℕ
     t = get_or layout.order.now r 0

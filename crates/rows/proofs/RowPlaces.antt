@@ -1,10 +1,10 @@
 -- The places of rows in the index, and the rows of all types as one list.
-use Rattle.std.proofs.Common.{◌≡◌, ℕ, zero, suc, ◌+◌, ◌-◌, ◌*◌, ◌/◌, ◌%◌, ◌<◌, ◌≤◌, List, ◌++◌, length, get_or, take, sym, ap, ◌∙◌, ⊎_elim, suc-mul, mul-zero, zero-mul, arith}
+use Rattle.std.proofs.Common.{◌≡◌, ℕ, zero, suc, ◌+◌, ◌-◌, ◌*◌, ◌/◌, ◌%◌, ◌<◌, ◌≤◌, List, ◌++◌, length, get_or, take, drop, sym, ap, ◌∙◌, ⊎_elim, suc-mul, mul-zero, zero-mul, arith}
 use Rattle.std.specs.List.{range_with_len, flat_map}
-use Rattle.std.proofs.lemmas.List.{length-append, get_or_append_left, get_or-append_right, ext_get_or, get_or-take, length-take-le}
+use Rattle.std.proofs.lemmas.List.{length-append, get_or_append_left, get_or-append_right, get_or-drop, ext_get_or, get_or-take, length-take-le}
 use Rattle.std.proofs.lemmas.Nat.{div-mul-add, mul-le, div-add-mod', div_below, mod_below}
 use Rattle.std.proofs.lemmas.List.FromFn.{length-map-range_with_len, get_or-map-range_with_len}
-use Rattle.std.proofs.lemmas.Bool.{cases_eq}
+use Rattle.std.proofs.lemmas.Bool.{cases_eq, cases_lt}
 use Rattle.descent.specs.declared.link.Link.{Link}
 use Rattle.rows.specs.Rows.{entry_of, row_of, rows_of}
 
@@ -64,3 +64,16 @@ module _ (n : ℕ) (links : List Link) (chains positions : List ℕ) (count : �
       get_or-take (n * count) index j 0 below
       ∙ ap (λ (x : ℕ). get_or index x 0) at.4 ∙ rows at.0 at.1 at.2 at.3
       ∙ sym (ap (λ (x : ℕ). get_or (rows_of n links chains positions count) x 0) at.4 ∙ all_rows_at at.0 at.1 at.2 at.3))
+
+-- what was outside a part that was lent, and came back as long, is as it was
+pub part_outside : (xs part : List ℕ) (s n j : ℕ) → s + n ≤ length xs → length part ≡ n → ((c : ℕ) → c < n → j ≡ s + c → ⊥) → get_or (take s xs ++ (part ++ drop n (drop s xs))) j 0 ≡ get_or xs j 0
+part_outside xs part s n j room long out =
+    ⊎_elim
+    (λ (l : j < s). get_or_append_left (take s xs) (part ++ drop n (drop s xs)) 0 j (omega (arith, length-take-le s xs (omega arith))) ∙ get_or-take s xs j 0 l)
+    (λ (ge : s ≤ j).
+    let past : n ≤ j - s = ⊎_elim (λ (l : j - s < n). absurd (out (j - s) l (omega arith))) (λ (g : n ≤ j - s). g) (cases_lt (j - s) n) in
+    let at : s + (n + (j - s - n)) ≡ j = omega arith in
+    get_or-append_right (take s xs) (part ++ drop n (drop s xs)) s j 0 (length-take-le s xs (omega arith)) ge
+    ∙ get_or-append_right part (drop n (drop s xs)) n (j - s) 0 long past
+    ∙ get_or-drop n (drop s xs) (j - s - n) 0 ∙ get_or-drop s xs (n + (j - s - n)) 0 ∙ ap (λ (x : ℕ). get_or xs x 0) at)
+    (cases_lt j s)

@@ -1,4 +1,2 @@
-pub mod Splitting
 pub mod Digits
-pub mod Stepping
 pub mod Readings

@@ -1,12 +1,9 @@
--- A script with one more line.
-use Rattle.std.proofs.Common.{◌≡◌, ℕ, Bool, List, [], ◌∷◌, length, refl, arith}
-use Rattle.script.specs.Lines.{said}
-use Rattle.script.specs.Reading.{Reading, with_said, with_bytes}
+-- The lines of a script.
+use Rattle.std.proofs.Common.{◌≡◌, ℕ, List, [], length, ap, arith}
+use Rattle.std.proofs.lemmas.List.Splits.{length-slice_split}
+use Rattle.texts.specs.Splitting.{is_byte}
+use Rattle.texts.specs.Texts.{newline, lines_of}
 
-pub empty_line : (first : Bool) (r : Reading) (line : List ℕ) → length line ≡ 0 → with_bytes first r line ≡ r
-empty_line first r [] h = refl
-empty_line first r (b ∷ bs) h = absurd (omega arith)
-
-pub full_line : (first : Bool) (r : Reading) (line : List ℕ) → (length line ≡ 0 → ⊥) → with_bytes first r line ≡ with_said first r (said line)
-full_line first r [] h = absurd (h refl)
-full_line first r (b ∷ bs) h = refl
+-- each text has a line
+pub lines_some : (text : List ℕ) → lines_of text ≡ [] → ⊥
+lines_some text e = let n : length (lines_of text) ≡ 0 = ap length e in omega (arith, n, length-slice_split (is_byte newline) text)

@@ -36,47 +36,47 @@ said_by (line.Settle method) = settle method
 said_by (line.Ask first second) = ask first.now second.now
 said_by (line.Unknown word) = unknown word.now
 
-abbrev pub keyword_of : List ℕ → Keyword
+abbrev pub keyword_of : List ℕ → Option Keyword
 keyword_of w =
-    cond (bytes_eq w (codes "tables")) keyword.Tables
-    (cond (bytes_eq w (codes "shipped")) keyword.Shipped
-    (cond (bytes_eq w (codes "own")) keyword.Own
-    (cond (bytes_eq w (codes "load")) keyword.Load
-    (cond (bytes_eq w (codes "open")) keyword.Open
-    (cond (bytes_eq w (codes "keep")) keyword.Keep
-    (cond (bytes_eq w (codes "withdraw")) keyword.Withdraw
-    (cond (bytes_eq w (codes "settle")) keyword.Settle
-    (cond (bytes_eq w (codes "ask")) keyword.Ask keyword.Other))))))))
+    cond (bytes_eq w (codes "tables")) (Some keyword.Tables)
+    (cond (bytes_eq w (codes "shipped")) (Some keyword.Shipped)
+    (cond (bytes_eq w (codes "own")) (Some keyword.Own)
+    (cond (bytes_eq w (codes "load")) (Some keyword.Load)
+    (cond (bytes_eq w (codes "open")) (Some keyword.Open)
+    (cond (bytes_eq w (codes "keep")) (Some keyword.Keep)
+    (cond (bytes_eq w (codes "withdraw")) (Some keyword.Withdraw)
+    (cond (bytes_eq w (codes "settle")) (Some keyword.Settle)
+    (cond (bytes_eq w (codes "ask")) (Some keyword.Ask) None))))))))
 
 -- a word alone on its line
-abbrev pub alone_said : Keyword → List ℕ → Said
-alone_said keyword.Tables w = tables None
-alone_said keyword.Shipped w = shipped []
-alone_said keyword.Own w = own []
-alone_said keyword.Load w = load
-alone_said keyword.Open w = opens
-alone_said keyword.Keep w = keep
-alone_said keyword.Withdraw w = withdraw
-alone_said keyword.Settle w = settle Joined
-alone_said keyword.Ask w = unknown w
-alone_said keyword.Other w = unknown w
+abbrev pub alone_said : Option Keyword → List ℕ → Said
+alone_said (Some keyword.Tables) w = tables None
+alone_said (Some keyword.Shipped) w = shipped []
+alone_said (Some keyword.Own) w = own []
+alone_said (Some keyword.Load) w = load
+alone_said (Some keyword.Open) w = opens
+alone_said (Some keyword.Keep) w = keep
+alone_said (Some keyword.Withdraw) w = withdraw
+alone_said (Some keyword.Settle) w = settle Joined
+alone_said (Some keyword.Ask) w = unknown w
+alone_said None w = unknown w
 
 abbrev pub asked : List ℕ → Option (List ℕ × List ℕ) → Said
 asked w None = unknown w
 asked w (Some (first, second)) = ask first second
 
 -- a word with what stands after the space behind it
-abbrev pub rest_said : Keyword → List ℕ → List ℕ → Said
-rest_said keyword.Tables w text = tables (lengths_in text)
-rest_said keyword.Shipped w text = shipped text
-rest_said keyword.Own w text = own text
-rest_said keyword.Load w text = unknown w
-rest_said keyword.Open w text = unknown w
-rest_said keyword.Keep w text = unknown w
-rest_said keyword.Withdraw w text = unknown w
-rest_said keyword.Settle w text = cond (bytes_eq text (codes "chains")) (settle Chains) (unknown w)
-rest_said keyword.Ask w text = asked w (names_in text)
-rest_said keyword.Other w text = unknown w
+abbrev pub rest_said : Option Keyword → List ℕ → List ℕ → Said
+rest_said (Some keyword.Tables) w text = tables (lengths_in text)
+rest_said (Some keyword.Shipped) w text = shipped text
+rest_said (Some keyword.Own) w text = own text
+rest_said (Some keyword.Load) w text = unknown w
+rest_said (Some keyword.Open) w text = unknown w
+rest_said (Some keyword.Keep) w text = unknown w
+rest_said (Some keyword.Withdraw) w text = unknown w
+rest_said (Some keyword.Settle) w text = cond (bytes_eq text (codes "chains")) (settle Chains) (unknown w)
+rest_said (Some keyword.Ask) w text = asked w (names_in text)
+rest_said None w text = unknown w
 
 abbrev pub word_said : List ℕ → Option (List ℕ) → Said
 word_said w None = alone_said (keyword_of w) w

@@ -3,7 +3,7 @@ use Rattle.std.specs.Prelude.{◌≡◌, ℕ, List, map}
 use Rattle.declarations.specs.declared.book.Book.{Book}
 use Rattle.declarations.specs.declared.call.Answer.{Answer}
 use Rattle.declarations.specs.declared.call.Call.{Call}
-use Rattle.declarations.specs.declared.call.TableSizes.{TableSizes}
+use Rattle.register.specs.declared.tables.TableSizes.{TableSizes}
 use Rattle.declarations.specs.Running.{Ran, setup_for}
 use Rattle.descent.specs.Links.{Descends}
 use Rattle.walk.specs.declared.walk.Walk.{Walk}

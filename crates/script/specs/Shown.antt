@@ -1,10 +1,11 @@
 -- What is printed for an answer, and for a step that makes no call.
 use Rattle.std.specs.Prelude.{ℕ, Bool, true, false, List, ◌++◌, Ok, Err, codes, decimal, Result}
 use Rattle.texts.specs.declared.refusal.Report.{Report}
+use Rattle.texts.specs.Refusals.{report_text}
 use Rattle.register.specs.declared.refusal.Refusal.{Refusal}
 use Rattle.register.specs.declared.refusal.NotAsked.{NotAsked}
 use Rattle.register.specs.declared.refusal.NotAsked.TheVariants.{NotSettled, Unknown}
-use Rattle.register.specs.Refusals.{report_of}
+use Rattle.register.specs.Refusals.{report_of, which_number}
 use Rattle.settling.specs.declared.outcome.Settled.{Settled}
 use Rattle.settling.specs.declared.outcome.Unsettled.{Unsettled}
 use Rattle.settling.specs.declared.outcome.Unsettled.TheVariants.{ShortTable, Loop, ShortIndex}
@@ -17,7 +18,7 @@ use Rattle.script.specs.declared.step.Remark.TheVariants as remark
 
 -- `load: refused N T L C` and byte 10
 abbrev pub shown_report : Report → List ℕ
-shown_report r = codes "load: refused " ++ (decimal r.number ++ (codes " " ++ (decimal r.text ++ (codes " " ++ (decimal r.line ++ (codes " " ++ (decimal r.column ++ codes "\n")))))))
+shown_report r = codes "load: refused " ++ (report_text r ++ codes "\n")
 
 abbrev pub shown_load : Result (Unit {0}) Refusal → List ℕ
 shown_load (Ok u) = codes "load: accepted\n"
@@ -44,14 +45,11 @@ abbrev pub shown_settled : Settled → List ℕ
 shown_settled s =
     codes "settle: " ++ (decimal s.types ++ (codes " " ++ (decimal s.links ++ (codes " " ++ (decimal s.chains ++ (codes " " ++ (decimal s.kept ++ codes "\n")))))))
 
--- `settle: refused N V` and byte 10
-abbrev pub shown_unsettled_by : ℕ → ℕ → List ℕ
-shown_unsettled_by number value = codes "settle: refused " ++ (decimal number ++ (codes " " ++ (decimal value ++ codes "\n")))
-
+-- `settle: refused N` and, where it returns one, a value
 abbrev pub shown_unsettled : Unsettled → List ℕ
 shown_unsettled ShortTable = codes "settle: refused 9\n"
-shown_unsettled (Loop size) = shown_unsettled_by 10 size
-shown_unsettled (ShortIndex needed) = shown_unsettled_by 11 needed
+shown_unsettled (Loop size) = codes "settle: refused 10 " ++ (decimal size ++ codes "\n")
+shown_unsettled (ShortIndex needed) = codes "settle: refused 11 " ++ (decimal needed ++ codes "\n")
 
 abbrev pub shown_settle : Result Settled Unsettled → List ℕ
 shown_settle (Ok settled) = shown_settled settled
@@ -61,7 +59,7 @@ abbrev pub shown_ask : Result Bool NotAsked → List ℕ
 shown_ask (Ok true) = codes "ask: yes\n"
 shown_ask (Ok false) = codes "ask: no\n"
 shown_ask (Err NotSettled) = codes "ask: refused 12\n"
-shown_ask (Err (Unknown which)) = codes "ask: refused 13 " ++ (decimal which ++ codes "\n")
+shown_ask (Err (Unknown which)) = codes "ask: refused 13 " ++ (decimal (which_number which) ++ codes "\n")
 
 -- the line that is printed for an answer
 abbrev pub shown_answer : Answer → List ℕ

@@ -1,26 +1,23 @@
 -- The words of a line: what stands before its first space, and what after.
-use Rattle.std.specs.Prelude.{ℕ, suc, ◌+◌, Bool, cond, not, ◌&&◌, List, [], ◌∷◌, length, take, drop, Some, None, Option, ◌==◌, nat_lt}
+use Rattle.std.specs.Prelude.{ℕ, Bool, cond, not, ◌&&◌, List, length, Some, None, Option, ◌==◌}
 use Rattle.std.specs.Borrow.{Bor}
+use Rattle.std.specs.List.{list_any}
+use Rattle.texts.specs.Splitting.{is_byte, before_byte, after_byte}
 
 abbrev pub space : ℕ
 space = 32
 
--- how many bytes stand before the first space
-abbrev pub word_length : List ℕ → ℕ
-word_length [] = 0
-word_length (b ∷ bs) = let n = word_length bs in cond (b == space) 0 (suc n)
-
 -- the bytes before the first space, or all of them
 abbrev pub word : List ℕ → List ℕ
-word line = take (word_length line) line
+word line = before_byte space line
 
 -- the bytes after the first space, if there is one
 abbrev pub rest : List ℕ → Option (List ℕ)
-rest line = cond (nat_lt (word_length line) (length line)) (Some (drop (word_length line + 1) line)) None
+rest line = after_byte space line
 
 -- whether these are one or more bytes without a space
 abbrev pub is_name : List ℕ → Bool
-is_name bytes = not (length bytes == 0) && word_length bytes == length bytes
+is_name bytes = not (length bytes == 0) && not (list_any (is_byte space) bytes)
 
 -- two names with one space between them
 abbrev pub two_names : List ℕ → Option (List ℕ) → Option (List ℕ × List ℕ)

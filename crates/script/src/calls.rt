@@ -6,10 +6,8 @@ ghost use Rattle.script.specs.Steps.{called_by, doing, calls_with, calls_in};
 use crate::method::Method;
 use crate::step::Step;
 use declarations::call::Call;
+use settling::settle::SCRATCH_PER_TYPE;
 use std::alloc::{AllocError, Global};
-
-/// The entries of working memory that a settle has for each place of a type.
-pub const SCRATCH_PER_PLACE: usize = 4;
 
 // The call that a step makes.
 fn call_of<'s>(step: &'s Step<'s>) -> Option<Call<'s, Method>>
@@ -23,7 +21,7 @@ fn call_of<'s>(step: &'s Step<'s>) -> Option<Call<'s, Method>>
         Step::Settle { method, types } => Some(Call::Settle {
             decomposer: *method,
             table: *types as usize,
-            scratch: SCRATCH_PER_PLACE * *types as usize,
+            scratch: SCRATCH_PER_TYPE * *types as usize,
         }),
         Step::Ask { first, second } => Some(Call::Ask { first, second }),
         Step::Remark(_) => None,

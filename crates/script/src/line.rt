@@ -4,7 +4,7 @@ ghost use Rattle.script.specs.Lines.{keyword_of, said_by, alone_said, rest_said,
 
 use crate::method::Method;
 use crate::numbers::{Lengths, read_lengths};
-use crate::words::{is, read_names, split_word};
+use crate::words::{read_names, split_word};
 
 /// The words with which a line may begin.
 #[derive(Clone, Copy)]
@@ -18,7 +18,6 @@ pub enum Keyword {
     Withdraw,
     Settle,
     Ask,
-    Other,
 }
 
 /// A line of a script, understood.
@@ -36,37 +35,22 @@ pub enum Line<'t> {
     Unknown(&'t [u8]),
 }
 
-fn keyword_of(word: &[u8]) -> Keyword
+// The keyword that a word is. So each word stands once, for the lines where something follows it and for the others.
+fn keyword_of(word: &[u8]) -> Option<Keyword>
     ensures { result ≡ keyword_of word.now }
 {
-    if is(word, b"tables") {
-        return Keyword::Tables;
+    match word {
+        b"tables" => Some(Keyword::Tables),
+        b"shipped" => Some(Keyword::Shipped),
+        b"own" => Some(Keyword::Own),
+        b"load" => Some(Keyword::Load),
+        b"open" => Some(Keyword::Open),
+        b"keep" => Some(Keyword::Keep),
+        b"withdraw" => Some(Keyword::Withdraw),
+        b"settle" => Some(Keyword::Settle),
+        b"ask" => Some(Keyword::Ask),
+        _ => None,
     }
-    if is(word, b"shipped") {
-        return Keyword::Shipped;
-    }
-    if is(word, b"own") {
-        return Keyword::Own;
-    }
-    if is(word, b"load") {
-        return Keyword::Load;
-    }
-    if is(word, b"open") {
-        return Keyword::Open;
-    }
-    if is(word, b"keep") {
-        return Keyword::Keep;
-    }
-    if is(word, b"withdraw") {
-        return Keyword::Withdraw;
-    }
-    if is(word, b"settle") {
-        return Keyword::Settle;
-    }
-    if is(word, b"ask") {
-        return Keyword::Ask;
-    }
-    Keyword::Other
 }
 
 // What a word says that stands alone on its line.
@@ -74,15 +58,15 @@ fn read_alone(word: &[u8]) -> Line
     ensures { said_by result ≡ alone_said (keyword_of word.now) word.now }
 {
     match keyword_of(word) {
-        Keyword::Tables => Line::Tables(None),
-        Keyword::Shipped => Line::Shipped(&[]),
-        Keyword::Own => Line::Own(&[]),
-        Keyword::Load => Line::Load,
-        Keyword::Open => Line::Open,
-        Keyword::Keep => Line::Keep,
-        Keyword::Withdraw => Line::Withdraw,
-        Keyword::Settle => Line::Settle(Method::Joined),
-        Keyword::Ask | Keyword::Other => Line::Unknown(word),
+        Some(Keyword::Tables) => Line::Tables(None),
+        Some(Keyword::Shipped) => Line::Shipped(&[]),
+        Some(Keyword::Own) => Line::Own(&[]),
+        Some(Keyword::Load) => Line::Load,
+        Some(Keyword::Open) => Line::Open,
+        Some(Keyword::Keep) => Line::Keep,
+        Some(Keyword::Withdraw) => Line::Withdraw,
+        Some(Keyword::Settle) => Line::Settle(Method::Joined),
+        Some(Keyword::Ask) | None => Line::Unknown(word),
     }
 }
 
@@ -91,11 +75,11 @@ fn read_with_rest<'t>(word: &'t [u8], rest: &'t [u8]) -> Line<'t>
     ensures { said_by result ≡ rest_said (keyword_of word.now) word.now rest.now }
 {
     match keyword_of(word) {
-        Keyword::Tables => Line::Tables(read_lengths(rest)),
-        Keyword::Shipped => Line::Shipped(rest),
-        Keyword::Own => Line::Own(rest),
-        Keyword::Settle if is(rest, b"chains") => Line::Settle(Method::Chains),
-        Keyword::Ask => match read_names(rest) {
+        Some(Keyword::Tables) => Line::Tables(read_lengths(rest)),
+        Some(Keyword::Shipped) => Line::Shipped(rest),
+        Some(Keyword::Own) => Line::Own(rest),
+        Some(Keyword::Settle) if rest == b"chains".as_slice() => Line::Settle(Method::Chains),
+        Some(Keyword::Ask) => match read_names(rest) {
             Some((first, second)) => Line::Ask { first, second },
             None => Line::Unknown(word),
         },

@@ -1,12 +1,9 @@
 // The numbers of a script: the lengths of its tables.
-ghost use Rattle.std.specs.Prelude.{◌≡◌, ◌+◌, ◌*◌};
+ghost use Rattle.std.specs.Prelude.{◌≡◌};
 ghost use Rattle.std.specs.Option.{option_map};
 ghost use Rattle.script.specs.Numbers.{with_digit, number_of, number_in, rest_now, lengths_in};
 
 use crate::words::split_word;
-
-/// The largest number of a script.
-pub const MOST: u64 = 4_294_967_295;
 
 /// The lengths of tables.
 #[derive(Clone, Copy)]
@@ -21,18 +18,13 @@ pub struct Lengths {
 fn with_digit(value: u32, digit: u8) -> Option<u32>
     ensures { result ≡ with_digit value digit }
 {
-    if digit < b'0' || digit > b'9' {
+    if !digit.is_ascii_digit() {
         return None;
     }
-    let longer = value as u64 * 10 + (digit - b'0') as u64;
-    if longer > MOST {
-        None
-    } else {
-        Some(longer as u32)
-    }
+    value.checked_mul(10)?.checked_add(u32::from(digit - b'0'))
 }
 
-// The number that is written in plain decimal digits.
+// The number that is written in plain decimal digits. By hand: `parse` takes text alone, and also a `+` before the digits.
 fn read_number(digits: &[u8]) -> Option<u32>
     ensures { result ≡ number_of digits.now }
 {
@@ -41,10 +33,7 @@ fn read_number(digits: &[u8]) -> Option<u32>
     }
     let mut value = 0;
     for digit in digits {
-        let Some(longer) = with_digit(value, *digit) else {
-            return None;
-        };
-        value = longer;
+        value = with_digit(value, *digit)?;
     }
     Some(value)
 }

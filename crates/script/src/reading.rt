@@ -1,14 +1,13 @@
 // Reading a script: from its lines to its steps.
 ghost use Rattle.std.specs.Prelude.{◌≡◌, [], IfOk, vec_len, OnOk};
 ghost use Rattle.script.specs.Lines.{said_by};
-ghost use Rattle.script.specs.Reading.{with_line, text_of, reading_of, begun, with_step, with_tables, with_load, with_open, kept as kept-as, withdrawn as withdrawn-as, with_keep, with_withdraw, with_said, script_of};
+ghost use Rattle.script.specs.Reading.{with_line, text_of, reading_of, begun, with_step, with_tables, with_load, with_open, with_said, with_bytes, script_of};
 ghost use Rattle.script.specs.Steps.{doing};
 
 use crate::line::{Line, read_line};
 use crate::numbers::Lengths;
 use crate::step::{Remark, Step};
 use crate::tickets::Tickets;
-use declarations::call::Stub;
 use std::alloc::{AllocError, Global};
 use texts::text::Lines;
 
@@ -39,26 +38,6 @@ fn take_text(heap: Global, text: &mut Vec<u8>) -> Vec<u8>
     let mut taken = std::mem::replace(text, Vec::new(heap));
     let _ = taken.pop();
     taken
-}
-
-// The step that keeps the ticket which is held.
-fn keep_step<'t>(held: Option<Stub>) -> Step<'t>
-    ensures { doing result ≡ kept-as held }
-{
-    match held {
-        Some(ticket) => Step::Keep(ticket),
-        None => Step::Remark(Remark::Keep),
-    }
-}
-
-// The step that withdraws by the ticket which is held.
-fn withdraw_step<'t>(held: Option<Stub>) -> Step<'t>
-    ensures { doing result ≡ withdrawn-as held }
-{
-    match held {
-        Some(ticket) => Step::Withdraw(ticket),
-        None => Step::Remark(Remark::Withdraw),
-    }
 }
 
 impl<'t> Script<'t> {
@@ -117,21 +96,7 @@ impl<'t> Script<'t> {
         self.add_step(Step::Open)
     }
 
-    fn add_keep(&mut self) -> Result<(), AllocError>
-        ensures { OnOk result (reading_of self.new ≡ with_keep (reading_of self.old)) }
-    {
-        let held = self.tickets.spend();
-        self.add_step(keep_step(held))
-    }
-
-    fn add_withdraw(&mut self) -> Result<(), AllocError>
-        ensures { OnOk result (reading_of self.new ≡ with_withdraw (reading_of self.old)) }
-    {
-        let held = self.tickets.spend();
-        self.add_step(withdraw_step(held))
-    }
-
-    // Adds a line, which may be the first of the script.
+    // Adds a line. Whether it is the first of the script goes with it: only there the tables may be given.
     fn add(&mut self, heap: Global, line: Line<'t>, first: bool) -> Result<(), AllocError>
         ensures { OnOk result (reading_of self.new ≡ with_said first (reading_of self.old) (said_by line.entry)) }
     {
@@ -141,8 +106,14 @@ impl<'t> Script<'t> {
             Line::Own(text) => add_line(&mut self.own, text),
             Line::Load => self.add_load(heap),
             Line::Open => self.add_open(),
-            Line::Keep => self.add_keep(),
-            Line::Withdraw => self.add_withdraw(),
+            Line::Keep => match self.tickets.spend() {
+                Some(ticket) => self.add_step(Step::Keep(ticket)),
+                None => self.add_step(Step::Remark(Remark::Keep)),
+            },
+            Line::Withdraw => match self.tickets.spend() {
+                Some(ticket) => self.add_step(Step::Withdraw(ticket)),
+                None => self.add_step(Step::Remark(Remark::Withdraw)),
+            },
             Line::Settle(method) => {
                 let types = self.lengths.types;
                 self.add_step(Step::Settle { method, types })
@@ -151,6 +122,16 @@ impl<'t> Script<'t> {
             Line::Unknown(word) => self.add_step(Step::Remark(Remark::Unknown(word))),
         }
     }
+
+    // Adds what a line's bytes say; an empty line is passed over.
+    fn add_bytes(&mut self, heap: Global, line: &'t [u8], first: bool) -> Result<(), AllocError>
+        ensures { OnOk result (reading_of self.new ≡ with_bytes first (reading_of self.old) line.entry.now) }
+    {
+        if line.is_empty() {
+            return Ok(());
+        }
+        self.add(heap, read_line(line), first)
+    }
 }
 
 /// Reads all lines of a script.
@@ -158,12 +139,12 @@ pub fn read_script<'t>(heap: Global, input: &'t [u8]) -> Result<Script<'t>, Allo
     ensures { IfOk result (λ s. reading_of s ≡ script_of input.now) }
 {
     let mut script = Script::new(heap);
-    let mut first = true;
-    for line in Lines::of(input) {
-        if !line.is_empty() {
-            script.add(heap, read_line(line), first)?;
-        }
-        first = false;
+    let mut lines = Lines::of(input);
+    if let Some(line) = lines.next() {
+        script.add_bytes(heap, line, true)?;
+    }
+    for line in lines {
+        script.add_bytes(heap, line, false)?;
     }
     Ok(script)
 }

@@ -15,25 +15,16 @@ use declarations::run::run;
 use std::alloc::{AllocError, Global};
 use walk::walk::Walk;
 
-// The tables of a book: order, chain and position have an entry for each type, kept one for each link.
-fn sizes_of(lengths: Lengths) -> TableSizes
-    ensures { result ≡ sizes_of lengths }
-{
-    let Lengths {
-        types,
-        links,
-        pool,
-        index,
-    } = lengths;
-    TableSizes {
-        pool: pool as usize,
-        names: types as usize,
-        links: links as usize,
-        order: types as usize,
-        chain: types as usize,
-        position: types as usize,
-        kept: links as usize,
-        index: index as usize,
+impl From<Lengths> for TableSizes {
+    ghost from_gives = { λ lengths sizes. sizes ≡ sizes_of lengths };
+
+    fn from(lengths: Lengths) -> TableSizes {
+        TableSizes::of_counts(
+            lengths.types as usize,
+            lengths.links as usize,
+            lengths.pool as usize,
+            lengths.index as usize,
+        )
     }
 }
 
@@ -42,13 +33,12 @@ fn print_steps(heap: Global, steps: &[Step], answers: &[Answer]) -> Result<Vec<u
     ensures { IfOk result (λ v. v.items ≡ shown_steps (map doing steps.now) answers.now) }
 {
     let mut printed = Vec::new(heap);
-    let mut next = 0usize;
+    let mut left = answers.iter();
     for step in steps {
         if let Step::Remark(remark) = step {
             printed.extend_from_slice(&show_remark(heap, *remark)?)?;
-        } else if next < answers.len() {
-            printed.extend_from_slice(&show_answer(heap, answers[next])?)?;
-            next += 1;
+        } else if let Some(answer) = left.next() {
+            printed.extend_from_slice(&show_answer(heap, *answer)?)?;
         }
     }
     Ok(printed)
@@ -59,7 +49,7 @@ pub fn replayed(heap: Global, input: &[u8]) -> Result<Vec<u8>, AllocError>
     ensures { IfOk result (λ v. Replayed input.now v.items) }
 {
     let script = read_script(heap, input)?;
-    let sizes = sizes_of(script.lengths);
+    let sizes = TableSizes::from(script.lengths);
     let calls = calls_of(heap, &script.steps)?;
     let outcome = run::<Method, Walk>(heap, BOOK, sizes, &calls)?;
     print_steps(heap, &script.steps, &outcome.answers)

@@ -31,8 +31,7 @@ impl Tickets {
         ensures value { result ≡ spent self.old }
         ensures after { self.new ≡ after_spend self.old }
     {
-        let trial = self.held?;
-        self.held = None;
+        let trial = self.held.take()?;
         Some(Stub { book: BOOK, trial })
     }
 }

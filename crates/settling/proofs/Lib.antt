@@ -1,3 +1,1 @@
 pub mod Ranking
-pub mod Fill
-pub mod Parts

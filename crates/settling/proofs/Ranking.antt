@@ -1,12 +1,12 @@
 -- A whole order ranks each type.
-use Rattle.std.proofs.Common.{◌≡◌, ℕ, ◌+◌, ◌-◌, ◌<◌, ◌≤◌, List, ◌++◌, length, get_or, take, drop, sym, ap, ◌∙◌, subst, arith, length-take}
+use Rattle.std.proofs.Common.{◌≡◌, ℕ, ◌+◌, ◌-◌, ◌<◌, ◌≤◌, List, length, get_or, take, drop, sym, ap, ◌∙◌, subst, arith}
 use Rattle.descent.specs.declared.link.Link.{Link}
 use Rattle.descent.specs.Links.{Within}
 use Rattle.order.specs.Order.{order_of}
 use Rattle.order.specs.Ranks.{rank_of, ranks_of}
 use Rattle.order.proofs.Left.{table_rank}
 use Rattle.order.proofs.WholeOrders.{place_rank, whole_rank, whole_once, whole_rises}
-use Rattle.std.proofs.lemmas.List.{drop-drop, take-append-drop}
+use Rattle.std.proofs.lemmas.List.{drop-drop}
 use Rattle.chains.specs.Ranked.{Ranked}
 
 module _ (n : ℕ) (links : List Link) (rank : List ℕ) (within : Within links n) (whole : length (order_of n links) ≡ n) (small : n ≤ 1024) (ranks : take n rank ≡ ranks_of n links) where
@@ -32,14 +32,3 @@ pub leaves_more : {X : Type 0} (xs ys : List X) (r n : ℕ) → r ≤ n → drop
 leaves_more xs ys r n h e =
     let z : r + (n - r) ≡ n = omega arith in
     ap (λ k. drop k xs) (sym z) ∙ sym (drop-drop (n - r) r xs) ∙ ap (drop (n - r)) e ∙ drop-drop (n - r) r ys ∙ ap (λ k. drop k ys) z
-
--- the front of a table, as a slice of it shows it
-pub front_of : {X : Type 0} (xs : List X) (n : ℕ) → take (n - 0) xs ≡ take n xs
-front_of xs n = let z : n - 0 ≡ n = omega arith in ap (λ m. take m xs) z
-
--- a table whose front is written, and the rest left
-pub front_written : {X : Type 0} (front xs ys : List X) (k : ℕ) → take k ys ≡ front → drop k ys ≡ drop k xs → ys ≡ front ++ drop k xs
-front_written front xs ys k e h = sym (take-append-drop k ys) ∙ ap (λ l. l ++ drop k ys) e ∙ ap (λ l. front ++ l) h
-
-pub front_room : {X : Type 0} (xs : List X) (n : ℕ) → n ≤ length xs → n ≤ length (take (n - 0) xs)
-front_room xs n h = simp length-take (omega arith)

@@ -26,9 +26,11 @@ pub record Lays (Gives : Giving) (n : ℕ) (links : List Link) (count : ℕ) (or
   pub given : Gives n links (order_of n links) (take n chain) (take n position) count
   pub few : count ≤ n
 
-abbrev pub LaysOut : Giving → ℕ → List Link → List ℕ → Result ℕ ℕ → List ℕ → List ℕ → List ℕ → List ℕ → List ℕ → Type 0
+abbrev pub LaysOut : Giving → ℕ → List Link → List ℕ → Result ℕ Unsettled → List ℕ → List ℕ → List ℕ → List ℕ → List ℕ → Type 0
 LaysOut Gives n links loop (Ok count) loop' order rank chain position = Lays Gives n links count order rank chain position × (loop' ≡ loop)
-LaysOut Gives n links loop (Err size) loop' order rank chain position = Loops n links size loop loop'
+LaysOut Gives n links loop (Err ShortTable) loop' order rank chain position = ⊥
+LaysOut Gives n links loop (Err (LoopFound size)) loop' order rank chain position = Loops n links size loop loop'
+LaysOut Gives n links loop (Err (ShortIndex needed)) loop' order rank chain position = ⊥
 
 -- all is written but scratch
 pub record Written (Gives : Giving) (n : ℕ) (links : List Link) (before : Tables) (s : Settled) (after : Tables) : Type 0 where

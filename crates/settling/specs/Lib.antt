@@ -1,4 +1,5 @@
 pub mod Settling
+pub mod Lent
 pub mod Laying
 pub mod Writing
 pub mod Numbers

@@ -24,30 +24,30 @@ pub enum Unsettled {
     ShortIndex { needed: usize },
 }
 
-/// A refusal by its number and the value that it returns; 0 where it returns none.
+/// A refusal by its number, and the value that it returns, if any.
 #[derive(Clone, Copy, Debug, PartialEq, Eq)]
 pub struct Report {
     pub number: u8,
-    pub value: usize,
+    pub value: Option<usize>,
 }
 
 impl Unsettled {
-    /// The number of the refusal, and the value that it returns.
+    /// The number of the refusal, and the value that it returns, if any.
     pub fn report(&self) -> Report
         ensures { result ≡ report_of self.now }
     {
         match *self {
             Unsettled::ShortTable => Report {
                 number: 9,
-                value: 0,
+                value: None,
             },
             Unsettled::Loop { length } => Report {
                 number: 10,
-                value: length,
+                value: Some(length),
             },
             Unsettled::ShortIndex { needed } => Report {
                 number: 11,
-                value: needed,
+                value: Some(needed),
             },
         }
     }

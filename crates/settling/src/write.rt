@@ -1,53 +1,54 @@
 // The second part of settling: rows and kept entries.
-ghost use Rattle.std.specs.Prelude.{ℕ, ◌≤◌, length};
+ghost use Rattle.std.specs.Prelude.{◌≡◌, ℕ, ◌*◌, ◌≤◌, length, take};
 ghost use Rattle.chains.specs.Chains.{Chained};
 ghost use Rattle.chains.specs.Ranked.{Ranked};
-ghost use Rattle.rows.specs.KeptEntries.{Different};
 ghost use Rattle.settling.specs.Writing.{WritesAs};
 
+use crate::graph::Graph;
 use crate::outcome::{Settled, Unsettled};
-use descent::link::Link;
 use rows::layout::Layout;
 use rows::write::write_rows;
 
-// Writes rows and kept entries of types that are laid out in chains, or says how many index entries that needs.
+// Writes rows and kept entries of types that are ranked, at the front of scratch, and laid out in chains, or says how many
+// index entries that needs. The tables come one by one, as to `lay_out`.
 pub(crate) fn write_entries(
-    types: u16,
+    graph: &Graph,
     chains: u16,
-    links: &[Link],
-    order: &[u16],
-    rank: &[u16],
-    chain: &[u16],
-    position: &[u16],
-    slots: &mut [u16],
+    order: &mut [u16],
+    chain: &mut [u16],
+    position: &mut [u16],
     kept: &mut [u16],
     index: &mut [u16],
+    scratch: &mut [u16],
 ) -> Result<Settled, Unsettled>
-    requires few { types ≤ 1024 }
-    requires few_links { length links.now ≤ 8192 }
-    requires few_chains { chains ≤ types }
-    requires ranked { Ranked types links.now order.now rank.now }
-    requires chained { Chained types links.now chain.now position.now chains }
-    requires different { Different links.now }
-    requires rank_room { types ≤ length rank.now }
-    requires chain_room { types ≤ length chain.now }
-    requires position_room { types ≤ length position.now }
-    requires slots_room { types ≤ length slots.old }
-    requires kept_room { length links.now ≤ length kept.old }
-    ensures { WritesAs types links.now chains chain.now position.now kept.old index.old result kept.new index.new }
+    requires few_chains { chains ≤ graph.now.types }
+    requires ranked { Ranked graph.now.types graph.now.links.now (take graph.now.types order.old) (take graph.now.types scratch.old) }
+    requires chained { Chained graph.now.types graph.now.links.now (take graph.now.types chain.old) (take graph.now.types position.old) chains }
+    requires order_room { graph.now.types ≤ length order.old }
+    requires chain_room { graph.now.types ≤ length chain.old }
+    requires position_room { graph.now.types ≤ length position.old }
+    requires kept_room { length graph.now.links.now ≤ length kept.old }
+    requires scratch_room { 2 * graph.now.types ≤ length scratch.old }
+    ensures order { order.new ≡ order.old }
+    ensures chain { chain.new ≡ chain.old }
+    ensures position { position.new ≡ position.old }
+    ensures written { WritesAs graph.now.types graph.now.links.now chains (take graph.now.types chain.old) (take graph.now.types position.old) kept.old index.old result kept.new index.new }
 {
-    let needed = types as usize * chains as usize;
+    let Graph { types, links } = *graph;
+    let n = types as usize;
+    let needed = n * chains as usize;
     if index.len() < needed {
         return Err(Unsettled::ShortIndex { needed });
     }
+    let (rank, slots) = scratch.split_at_mut(n);
     let layout = Layout {
         types,
         chains,
         links,
-        order,
+        order: &order[..n],
         rank,
-        chain,
-        position,
+        chain: &chain[..n],
+        position: &position[..n],
     };
     let kept = write_rows(&layout, slots, kept, index);
     Ok(Settled {

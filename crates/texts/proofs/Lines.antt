@@ -1,59 +1,36 @@
 -- The first line of a text, and the lines after it.
-use Rattle.std.proofs.Common.{◌≡◌, ℕ, suc, ◌+◌, ◌<◌, ◌≤◌, Bool, true, false, cond, eqb, List, [], ◌∷◌, length, get_or, take, drop, sym, refl, ap, ◌∙◌, add-one, arith, eq-eqb, ne_eqb}
-use Rattle.std.proofs.lemmas.List.{at_drop_more, at_drop_all}
-use Rattle.texts.specs.Texts.{newline, before, lines_of}
+use Rattle.std.proofs.Common.{◌≡◌, ℕ, ◌+◌, ◌≤◌, Bool, true, false, cond, nat_lt, List, [], ◌∷◌, length, Some, None, Option, sym, refl, ap, ap₂, ◌∙◌, arith}
+use Rattle.std.specs.List.{after_first, position_or_len}
+use Rattle.std.proofs.lemmas.List.{take_all}
+use Rattle.std.proofs.lemmas.List.Sums.{fails_before_first, count_by-le-length}
+use Rattle.std.proofs.lemmas.List.Splits.{slice_split_first, slice_split_none, length-slice_split}
 use Rattle.std.specs.Borrow.{Bor}
 use Rattle.std.specs.Option.{option_map}
 use Rattle.std.proofs.lemmas.Iterator.{YieldsList}
 use Rattle.std.proofs.lemmas.Iterator.Consumers.{YieldsList-from_shown}
 use Rattle.texts.specs.declared.text.Lines.{Lines}
-use Rattle.texts.specs.Lines.{line_length, lines_left, Steps}
+use Rattle.texts.specs.Splitting.{is_byte, before_byte, after_byte}
+use Rattle.texts.specs.Texts.{newline, lines_of}
+use Rattle.texts.specs.Lines.{lines_left, Steps}
 
-pub line_on : (s : List ℕ) (n : ℕ) → n < length s → (get_or s n 0 ≡ newline → ⊥) → line_length (drop n s) ≡ line_length (drop (n + 1) s) + 1
-line_on s n h e = at_drop_more line_length s n 0 h ∙ ap (λ t. cond t 0 (suc (line_length (drop (n + 1) s)))) (ne_eqb (get_or s n 0) newline e) ∙ sym (add-one (line_length (drop (n + 1) s)))
+-- the first line, and the lines after it
+by_place : (t : List ℕ) (x : Bool) → nat_lt (position_or_len (is_byte newline) t) (length t) ≡ x
+    → lines_of t ≡ before_byte newline t ∷ lines_left (cond x (Some (after_first (is_byte newline) t)) None)
+by_place t true e = slice_split_first (is_byte newline) t 0 (grind arith)
+by_place t false e =
+    let last : length t ≤ position_or_len (is_byte newline) t = grind arith in
+    slice_split_none (is_byte newline) t (λ k d h. fails_before_first (is_byte newline) t k d (omega arith)) ∙ ap (λ l. l ∷ []) (sym (take_all (position_or_len (is_byte newline) t) t last))
 
-pub line_off : (s : List ℕ) (n : ℕ) → n < length s → get_or s n 0 ≡ newline → line_length (drop n s) ≡ 0
-line_off s n h e = at_drop_more line_length s n 0 h ∙ ap (λ t. cond t 0 (suc (line_length (drop (n + 1) s)))) (eq-eqb (get_or s n 0) newline e)
+pub lines_cut : (t : List ℕ) → lines_of t ≡ before_byte newline t ∷ lines_left (after_byte newline t)
+lines_cut t = by_place t (nat_lt (position_or_len (is_byte newline) t) (length t)) refl
 
-pub line_end : (s : List ℕ) (n : ℕ) → length s ≤ n → line_length (drop n s) ≡ 0
-line_end s n h = at_drop_all line_length s n h
-
--- the first line of several
-more_step : (b : ℕ) (bs : List ℕ) (t : Bool) → (line_length bs < length bs → lines_of bs ≡ take (line_length bs) bs ∷ lines_of (drop (line_length bs + 1) bs))
-    → cond t 0 (suc (line_length bs)) < suc (length bs)
-    → cond t ([] ∷ lines_of bs) (before b (lines_of bs)) ≡ take (cond t 0 (suc (line_length bs))) (b ∷ bs) ∷ lines_of (drop (cond t 0 (suc (line_length bs)) + 1) (b ∷ bs))
-more_step b bs true ih h = refl
-more_step b bs false ih h =
-    let e : suc (line_length bs) + 1 ≡ suc (line_length bs + 1) = omega arith in
-    ap (before b) (ih (omega arith)) ∙ ap (λ k. (b ∷ take (line_length bs) bs) ∷ lines_of (drop k (b ∷ bs))) (sym e)
-
-pub lines_more : (t : List ℕ) → line_length t < length t → lines_of t ≡ take (line_length t) t ∷ lines_of (drop (line_length t + 1) t)
-lines_more [] h = absurd (omega arith)
-lines_more (b ∷ bs) h = more_step b bs (eqb b newline) (lines_more bs) h
-
--- the only line
-last_step : (b : ℕ) (bs : List ℕ) (t : Bool) → (length bs ≤ line_length bs → lines_of bs ≡ take (line_length bs) bs ∷ [])
-    → suc (length bs) ≤ cond t 0 (suc (line_length bs))
-    → cond t ([] ∷ lines_of bs) (before b (lines_of bs)) ≡ take (cond t 0 (suc (line_length bs))) (b ∷ bs) ∷ []
-last_step b bs true ih h = absurd (omega arith)
-last_step b bs false ih h = ap (before b) (ih (omega arith))
-
-pub lines_last : (t : List ℕ) → length t ≤ line_length t → lines_of t ≡ take (line_length t) t ∷ []
-lines_last [] h = refl
-lines_last (b ∷ bs) h = last_step b bs (eqb b newline) (lines_last bs) h
+-- one step through the lines that are left
+pub lines_step : (left after : Option (List ℕ)) (text line : List ℕ) → left ≡ Some text → line ≡ before_byte newline text → after ≡ after_byte newline text → lines_left left ≡ line ∷ lines_left after
+lines_step left after text line e f g = ap lines_left e ∙ lines_cut text ∙ ap₂ (λ l r. l ∷ lines_left r) (sym f) (sym g)
 
 -- a text has at most one line more than bytes
-count-before : (b : ℕ) (ls : List (List ℕ)) (n : ℕ) → length ls ≤ n + 1 → length (before b ls) ≤ suc n + 1
-count-before b [] n h = omega arith
-count-before b (l ∷ ls) n h = omega arith
-
-count-step : (b : ℕ) (bs : List ℕ) (t : Bool) → length (lines_of bs) ≤ length bs + 1 → length (cond t ([] ∷ lines_of bs) (before b (lines_of bs))) ≤ suc (length bs) + 1
-count-step b bs true h = omega arith
-count-step b bs false h = count-before b (lines_of bs) (length bs) h
-
 pub lines_count : (t : List ℕ) → length (lines_of t) ≤ length t + 1
-lines_count [] = omega arith
-lines_count (b ∷ bs) = count-step b bs (eqb b newline) (lines_count bs)
+lines_count t = omega (arith, length-slice_split (is_byte newline) t, count_by-le-length (is_byte newline) t)
 
 -- the lines that are left, as the list that is gone through
 pub lines_road : (s : Lines) → YieldsList (λ s r t. Steps (option_map (λ x. x.now) s.rest) (option_map (λ x. x.now) r) (option_map (λ x. x.now) t.rest)) (λ (x : Bor (List ℕ)). x.now) s (lines_left (option_map (λ x. x.now) s.rest))

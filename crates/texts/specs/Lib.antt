@@ -1,4 +1,5 @@
 pub mod Refusals
+pub mod Splitting
 pub mod Texts
 pub mod Lines
 pub mod Joined

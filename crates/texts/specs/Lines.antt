@@ -1,11 +1,6 @@
 -- The lines of a text, one after another.
-use Rattle.std.specs.Prelude.{◌≡◌, ℕ, suc, cond, List, [], ◌∷◌, Some, None, Option, ◌==◌}
-use Rattle.texts.specs.Texts.{newline, lines_of}
-
--- how many bytes stand before the first byte 10
-abbrev pub line_length : List ℕ → ℕ
-line_length [] = 0
-line_length (b ∷ bs) = let n = line_length bs in cond (b == newline) 0 (suc n)
+use Rattle.std.specs.Prelude.{◌≡◌, ℕ, List, [], ◌∷◌, Some, None, Option}
+use Rattle.texts.specs.Texts.{lines_of}
 
 -- the lines of what is left of a text
 abbrev pub lines_left : Option (List ℕ) → List (List ℕ)

@@ -1,5 +1,5 @@
--- The numbers of a refusal: its own, and those that it returns.
-use Rattle.std.specs.Prelude.{ℕ}
+-- The numbers of a refusal: its own, and those that it returns and shows.
+use Rattle.std.specs.Prelude.{ℕ, List, ◌++◌, codes, decimal}
 use Rattle.grammar.specs.Rules.{rule_number}
 use Rattle.texts.specs.declared.refusal.Source.{Source}
 use Rattle.texts.specs.declared.refusal.Source.TheVariants.{Shipped, Own}
@@ -26,3 +26,15 @@ place_of (Unlawful rule p) = p
 
 abbrev pub report_of : Refusal → Report
 report_of r = record { number = refusal_number r; text = text_number (place_of r).source; line = (place_of r).line; column = (place_of r).column }
+
+-- `N T L C`
+abbrev pub report_text : Report → List ℕ
+report_text r = decimal r.number ++ (codes " " ++ (decimal r.text ++ (codes " " ++ (decimal r.line ++ (codes " " ++ decimal r.column)))))
+
+-- a refusal that points to no place
+abbrev pub placeless : ℕ → Report
+placeless number = record { number = number; text = 0; line = 0; column = 0 }
+
+-- `refused N T L C` and byte 10
+abbrev pub refused_line : Report → List ℕ
+refused_line r = codes "refused " ++ (report_text r ++ codes "\n")

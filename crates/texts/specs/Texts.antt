@@ -1,11 +1,12 @@
 -- The lines of a text, and what is refused of a pair of texts.
-use Rattle.std.specs.Prelude.{ℕ, zero, suc, ◌+◌, cond, List, [], ◌∷◌, length, None, Ok, Err, Option, Result, ◌==◌, nat_lt}
-use Rattle.std.specs.List.{slice_get}
+use Rattle.std.specs.Prelude.{ℕ, zero, suc, ◌+◌, cond, List, [], ◌∷◌, length, None, Ok, Err, Option, Result, nat_lt}
+use Rattle.std.specs.List.{slice_get, slice_split, onto_first}
 use Rattle.texts.specs.declared.refusal.Source.{Source}
 use Rattle.texts.specs.declared.refusal.Source.TheVariants.{Shipped, Own}
 use Rattle.texts.specs.declared.refusal.Refusal.{Refusal}
 use Rattle.texts.specs.declared.refusal.Refusal.TheVariants.{TooLong, Unlawful}
 use Rattle.texts.specs.Refusals.{place}
+use Rattle.texts.specs.Splitting.{is_byte}
 use Rattle.grammar.specs.Reading.{Outcome, lawful, unlawful, reading}
 
 abbrev pub newline : ℕ
@@ -13,13 +14,11 @@ newline = 10
 
 -- a byte before the first of some lines
 abbrev pub before : ℕ → List (List ℕ) → List (List ℕ)
-before b [] = (b ∷ []) ∷ []
-before b (l ∷ ls) = (b ∷ l) ∷ ls
+before b ls = onto_first b ls
 
 -- a line ends at each byte 10 and at the text's end
 abbrev pub lines_of : List ℕ → List (List ℕ)
-lines_of [] = [] ∷ []
-lines_of (b ∷ bs) = let ls = lines_of bs in cond (b == newline) ([] ∷ ls) (before b ls)
+lines_of text = slice_split (is_byte newline) text
 
 -- the line of a number, counted from 1
 abbrev pub line_at : List (List ℕ) → ℕ → Option (List ℕ)

@@ -3,4 +3,5 @@
 
 pub mod claims;
 pub mod refusal;
+pub mod splitting;
 pub mod text;

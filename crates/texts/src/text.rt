@@ -1,40 +1,20 @@
 // Texts: their lines, the first that is unlawful, and the line of a fault.
-ghost use Rattle.std.specs.Prelude.{◌≡◌, ℕ, ◌+◌, ◌<◌, ◌≤◌, List, ◌∷◌, length};
+ghost use Rattle.std.specs.Prelude.{◌≡◌, length};
 ghost use Rattle.std.specs.Option.{option_map};
 ghost use Rattle.texts.specs.Texts.{lines_of, line_at, text_of, checked_length, checked_lines, checked_texts};
-ghost use Rattle.texts.specs.Lines.{line_length, lines_left, Steps};
+ghost use Rattle.texts.specs.Lines.{lines_left, Steps};
 ghost use Rattle.std.specs.Iterator.{at_most};
 
 use crate::refusal::{Place, Refusal, Source};
+use crate::splitting::split_at_byte;
+use grammar::fault::Fault;
 use grammar::line::check_line;
 
 /// How many bytes a text may have.
 pub const MAX_TEXT: usize = 1_048_576;
 
-// How many bytes stand before the first byte 10.
-fn line_length(text: &[u8]) -> usize
-    ensures value { result ≡ line_length text.now }
-    ensures within { result ≤ length text.now }
-{
-    for (i, b) in text.iter().enumerate() {
-        if *b == b'\n' {
-            return i;
-        }
-    }
-    text.len()
-}
-
-// The first line of a text, and what is left after the byte 10 that ends it.
-fn split_line(text: &[u8]) -> (&[u8], Option<&[u8]>)
-    ensures { lines_of text.now ≡ result.0.now ∷ lines_left (option_map (λ x. x.now) result.1) }
-{
-    let end = line_length(text);
-    if end < text.len() {
-        (&text[0..end], Some(&text[end + 1..]))
-    } else {
-        (text, None)
-    }
-}
+/// How many bytes the input of a program may have.
+pub const MAX_INPUT: usize = 8_192;
 
 /// The lines of a text, one after another.
 #[derive(Drop)]
@@ -59,10 +39,7 @@ impl<'t> Iterator for Lines<'t> {
     ghost remaining = { λ s. at_most (length (lines_left (option_map (λ x. x.now) s.rest))) };
 
     fn next(&mut self) -> Option<&'t [u8]> {
-        let Some(text) = self.rest else {
-            return None;
-        };
-        let (line, rest) = split_line(text);
+        let (line, rest) = split_at_byte(self.rest?, b'\n');
         self.rest = rest;
         Some(line)
     }
@@ -81,24 +58,26 @@ fn check_length(text: &[u8], source: Source) -> Result<(), Refusal>
 fn check_lines(text: &[u8], source: Source) -> Result<(), Refusal>
     ensures { result ≡ checked_lines source 1 (lines_of text.now) }
 {
-    let mut number = 1;
-    for line in Lines::of(text) {
-        if let Err(fault) = check_line(line) {
+    for (before, line) in Lines::of(text).enumerate() {
+        if let Err(Fault { rule, column }) = check_line(line) {
+            let line = before + 1;
             return Err(Refusal::Unlawful(
-                fault.rule,
+                rule,
                 Place {
                     source,
-                    line: number,
-                    column: fault.column,
+                    line,
+                    column,
                 },
             ));
         }
-        number += 1;
     }
     Ok(())
 }
 
-/// Whether both texts are lawful, or else what is refused first: a text's length, then line by line, the shipped text's lines before the own text's.
+// The two texts go as two slices here and in all calls above: a host has them so, and a struct of both would say no more.
+
+/// Whether both texts are lawful, or else what is refused first: a text's length, then line by line, the shipped text's lines
+/// before the own text's.
 pub fn check_texts(shipped: &[u8], own: &[u8]) -> Result<(), Refusal>
     ensures { result ≡ checked_texts shipped.now own.now }
 {

@@ -1,1 +1,2 @@
 pub mod Vetting
+pub mod Tallies

@@ -1,15 +1,10 @@
 -- What the program answers to an input: the declarations and their counts, or what is refused.
-use Rattle.std.specs.Prelude.{◌≡◌, ℕ, ◌+◌, Bool, cond, List, [], ◌∷◌, ◌++◌, length, Ok, Err, codes, decimal, Result, nat_lt}
+use Rattle.std.specs.Prelude.{ℕ, ◌+◌, cond, List, [], ◌∷◌, ◌++◌, length, Ok, Err, codes, decimal, Result, nat_lt}
 use Rattle.texts.specs.declared.refusal.Refusal.{Refusal}
-use Rattle.texts.specs.declared.refusal.Report.{Report}
 use Rattle.grammar.specs.Grammar.{Named}
 use Rattle.grammar.specs.Reading.{Outcome, lawful, unlawful, reading}
-use Rattle.texts.specs.Refusals.{report_of}
+use Rattle.texts.specs.Refusals.{report_of, placeless, refused_line}
 use Rattle.texts.specs.Texts.{lines_of, checked_texts}
-
--- `refused N T L C` and byte 10
-abbrev pub shown_report : Report → List ℕ
-shown_report r = codes "refused " ++ (decimal r.number ++ (codes " " ++ (decimal r.text ++ (codes " " ++ (decimal r.line ++ (codes " " ++ (decimal r.column ++ codes "\n")))))))
 
 -- each of the names, with a separator before the first and `, ` before the others
 abbrev pub shown_bases : List ℕ → List Named → List ℕ
@@ -35,11 +30,6 @@ with_line t (lawful []) = record { shown = t.shown; declarations = t.declaration
 with_line t (lawful (n ∷ ns)) = record { shown = t.shown ++ shown_names (n ∷ ns); declarations = t.declarations + 1; lines = t.lines + 1 }
 with_line t (unlawful fault) = record { shown = t.shown; declarations = t.declarations; lines = t.lines + 1 }
 
--- one line written: whether it declares something, and what is written then
-abbrev pub Written : List ℕ → Outcome → Bool → List ℕ → Type 0
-Written out o b after =
-    (with_line (record { shown = out; declarations = 0; lines = 0 }) o ≡ record { shown = after; declarations = cond b 1 0; lines = 1 })
-
 abbrev pub with_lines : Tally → List (List ℕ) → Tally
 with_lines t [] = t
 with_lines t (l ∷ ls) = with_lines (with_line t (reading l)) ls
@@ -50,11 +40,8 @@ shown_tally t = t.shown ++ (codes "lawful: " ++ (decimal t.declarations ++ (code
 
 abbrev pub answered : List ℕ → Result (Unit {0}) Refusal → List ℕ
 answered input (Ok u) = shown_tally (with_lines none (lines_of input))
-answered input (Err refusal) = shown_report (report_of refusal)
-
-abbrev pub too_long : Report
-too_long = record { number = 1; text = 0; line = 0; column = 0 }
+answered input (Err refusal) = refused_line (report_of refusal)
 
 -- the input is the own text, and there is no shipped one
 abbrev pub vetted : List ℕ → List ℕ
-vetted input = cond (nat_lt 8192 (length input)) (shown_report too_long) (answered input (checked_texts [] input))
+vetted input = cond (nat_lt 8192 (length input)) (refused_line (placeless 1)) (answered input (checked_texts [] input))

@@ -1,33 +1,21 @@
 // Vetting a declaration text: what the program answers to an input, as bytes.
 #![tactic(auto)]
 
-ghost use Rattle.std.specs.Prelude.{◌≡◌, ◌+◌, ◌^◌, ◌<◌, ◌≤◌, cond, ◌++◌, map, length, IfOk, vec_len, codes, OnOk};
+ghost use Rattle.std.specs.Prelude.{◌≡◌, ◌<◌, ◌≤◌, ◌++◌, map, length, IfOk, codes, OnOk};
 ghost use Rattle.grammar.specs.Declarations.{name_of, names_of};
 ghost use Rattle.grammar.specs.Reading.{reading};
 ghost use Rattle.texts.specs.Texts.{lines_of};
-ghost use Rattle.vetting.specs.Vetting.{shown_report, shown_bases, shown_names, shown_tally, with_lines, none, Written, vetted};
+ghost use Rattle.vetting.specs.Vetting.{shown_bases, shown_names, shown_tally, with_line, with_lines, none, vetted};
+ghost use Rattle.vetting.specs.Tallies.{tally_of};
 
+mod tally;
+
+use crate::tally::Tally;
 use grammar::declaration::{Declaration, Name, Unread, read_line};
 use std::alloc::{AllocError, Global};
 use texts::refusal::Report;
+pub use texts::text::MAX_INPUT;
 use texts::text::{Lines, check_texts};
-
-/// How many bytes an input may have.
-pub const MAX_INPUT: usize = 8_192;
-
-// `refused N T L C` and byte 10.
-fn refused(heap: Global, report: Report) -> Result<Vec<u8>, AllocError>
-    ensures { IfOk result (λ v. v.items ≡ shown_report report) }
-{
-    let Report {
-        number,
-        text,
-        line,
-        column,
-    } = report;
-    let shown = format!(in heap; "refused {number} {text} {line} {column}\n")?;
-    Ok(shown.into_bytes())
-}
 
 // Each base with what parts it from the name before.
 fn write_bases(out: &mut Vec<u8>, bases: &[Name]) -> Result<(), AllocError>
@@ -52,18 +40,22 @@ fn write_declaration(out: &mut Vec<u8>, declaration: &Declaration) -> Result<(),
     Ok(())
 }
 
-// Whether a line declares something, which is then written.
-fn write_line(heap: Global, out: &mut Vec<u8>, line: &[u8]) -> Result<bool, AllocError>
-    ensures { IfOk result (λ b. Written out.old.items (reading line.now) b out.new.items) }
-{
-    match read_line(heap, line) {
-        Ok(Some(declaration)) => {
-            write_declaration(out, &declaration)?;
-            Ok(true)
+impl Tally {
+    // One line more, whose declaration, if it has one, is written.
+    fn add_line(&mut self, heap: Global, line: &[u8]) -> Result<(), AllocError>
+        requires { self.old.lines < 8193 }
+        ensures { OnOk result (tally_of self.new ≡ with_line (tally_of self.old) (reading line.now)) }
+    {
+        self.lines += 1;
+        match read_line(heap, line) {
+            Ok(Some(declaration)) => {
+                write_declaration(&mut self.shown, &declaration)?;
+                self.declarations += 1;
+                Ok(())
+            }
+            Ok(None) | Err(Unread::Unlawful(_)) => Ok(()),
+            Err(Unread::NoMemory) => Err(AllocError),
         }
-        Ok(None) => Ok(false),
-        Err(Unread::Unlawful(_)) => Ok(false),
-        Err(Unread::NoMemory) => Err(AllocError),
     }
 }
 
@@ -72,18 +64,22 @@ fn declarations(heap: Global, text: &[u8]) -> Result<Vec<u8>, AllocError>
     requires short { length text.now ≤ 8192 }
     ensures { IfOk result (λ v. v.items ≡ shown_tally (with_lines none (lines_of text.now))) }
 {
-    let mut out = Vec::new(heap);
-    let mut declarations = 0usize;
-    let mut lines = 0usize;
+    let mut tally = Tally {
+        shown: Vec::new(heap),
+        declarations: 0,
+        lines: 0,
+    };
     for line in Lines::of(text) {
-        if write_line(heap, &mut out, line)? {
-            declarations += 1;
-        }
-        lines += 1;
+        tally.add_line(heap, line)?;
     }
+    let Tally {
+        mut shown,
+        declarations,
+        lines,
+    } = tally;
     let counts = format!(in heap; "lawful: {declarations} declarations, {lines} lines\n")?;
-    out.extend_from_slice(counts.as_bytes())?;
-    Ok(out)
+    shown.extend_from_slice(counts.as_bytes())?;
+    Ok(shown)
 }
 
 /// What the program writes for an input: the declarations as they were understood and their counts, or what is refused.
@@ -91,18 +87,10 @@ pub fn vet(heap: Global, input: &[u8]) -> Result<Vec<u8>, AllocError>
     ensures { IfOk result (λ v. v.items ≡ vetted input.now) }
 {
     if input.len() > MAX_INPUT {
-        return refused(
-            heap,
-            Report {
-                number: 1,
-                text: 0,
-                line: 0,
-                column: 0,
-            },
-        );
+        return Report::without_place(1).to_line(heap);
     }
     match check_texts(&[], input) {
         Ok(()) => declarations(heap, input),
-        Err(refusal) => refused(heap, refusal.report()),
+        Err(refusal) => refusal.report().to_line(heap),
     }
 }

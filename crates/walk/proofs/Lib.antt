@@ -1,2 +1,1 @@
 mod Sweeping
-mod Tables

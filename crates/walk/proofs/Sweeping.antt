@@ -1,13 +1,14 @@
 -- One link of a sweep: what a new mark does, and what a link that marks nothing leaves.
-use Rattle.std.proofs.Common.{◌≡◌, ℕ, ◌+◌, ◌<◌, ◌≤◌, Bool, true, false, cond, eqb, List, length, get_or, set, sym, refl, ◌∙◌, subst, inl, inr, ⊎_elim, arith, below_more}
-use Rattle.std.proofs.lemmas.List.{get_or-set_same, get_or-set_other, get_or_past}
+use Rattle.std.proofs.Common.{◌≡◌, ℕ, ◌+◌, ◌<◌, ◌≤◌, cond, eqb, List, length, get_or, set, sym, refl, ◌∙◌, subst, inr, ⊎_elim, arith, below_more}
+use Rattle.std.proofs.lemmas.List.{get_or-set_same, get_or-set_other}
 use Rattle.std.proofs.lemmas.List.Sums.{sum_by-set}
-use Rattle.std.proofs.lemmas.Bool.{cases_eq, cases_lt}
+use Rattle.std.proofs.lemmas.Bool.{cases_eq}
 use Rattle.descent.specs.declared.link.Link.{Link}
 use Rattle.descent.specs.Links.{no_link, Linked, Descends}
 use Rattle.descent.proofs.Descents.{descent_then_link, descent_carries}
-use Rattle.walk.specs.Marks.{Clear}
-use Rattle.walk.specs.Sweeps.{Marked, Reached, Closed, Came, unmarked}
+use Rattle.walk.specs.Sweeps.{Marked, Reached, Closed, Swept, unmarked}
+use Rattle.walk.specs.declared.search.Progress.{Progress}
+use Rattle.walk.specs.declared.search.Progress.TheVariants.{Found, Grew, Still}
 
 reached_more : (links : List Link) (a : ℕ) (m : List ℕ) (x y : ℕ) → Linked links x y → Marked m x → Reached links a m → Reached links a (set m y 1)
 reached_more links a m x y l here reached k h =
@@ -26,48 +27,41 @@ kept_more m y within k h =
 fewer_unmarked : (m : List ℕ) (y : ℕ) → y < length m → get_or m y 0 ≡ 0 → unmarked (set m y 1) < unmarked m
 fewer_unmarked m y within e = omega (arith, rw e at (sum_by-set (λ x. cond (eqb x 0) 1 0) m y 1 0 within))
 
-came_marked : (links : List Link) (i : ℕ) (old m : List ℕ) (grew : Bool) (y : ℕ) → y < length m → get_or m y 0 ≡ 0 → Came links i old m grew → Came links (i + 1) old (set m y 1) true
-came_marked links i old m true y within e came = omega (arith, fewer_unmarked m y within e)
-came_marked links i old m false y within e came = subst (λ (z : List ℕ). unmarked (set m y 1) < unmarked z) came.0 (fewer_unmarked m y within e)
+swept_marked : (links : List Link) (i : ℕ) (old m : List ℕ) (sought y : ℕ) → y < length m → get_or m y 0 ≡ 0 → unmarked m ≤ unmarked old → Swept links i old (set m y 1) sought Grew
+swept_marked links i old m sought y within e most = omega (arith, fewer_unmarked m y within e)
 
-came_passed : (links : List Link) (i : ℕ) (old m : List ℕ) (grew : Bool) → (Marked m (get_or links i no_link).from → Marked m (get_or links i no_link).to) → Came links i old m grew → Came links (i + 1) old m grew
-came_passed links i old m true here came = came
-came_passed links i old m false here came = (came.0, below_more (λ k. Marked m (get_or links k no_link).from → Marked m (get_or links k no_link).to) i came.1 here)
+swept_passed : (links : List Link) (i : ℕ) (old m : List ℕ) (sought : ℕ) (progress : Progress) → (Marked m (get_or links i no_link).from → Marked m (get_or links i no_link).to)
+    → Swept links i old m sought progress → Swept links (i + 1) old m sought progress
+swept_passed links i old m sought Found here swept = swept
+swept_passed links i old m sought Grew here swept = swept
+swept_passed links i old m sought Still here swept = (swept.0, below_more (λ k. Marked m (get_or links k no_link).from → Marked m (get_or links k no_link).to) i swept.1 here)
 
 -- what holds between the links of a sweep
-abbrev pub Turn : List Link → List ℕ → ℕ → ℕ → List ℕ → Bool → Type 0
-Turn links old sought i m grew =
-    ((a : ℕ) → Reached links a old → Reached links a m)
-    × ((k : ℕ) → Marked old k → Marked m k)
-    × (get_or m sought 0 ≡ 0)
-    × Came links i old m grew
+pub record Turn (links : List Link) (old : List ℕ) (sought i : ℕ) (m : List ℕ) (progress : Progress) : Type 0 where
+  pub reached : (a : ℕ) → Reached links a old → Reached links a m
+  pub kept : (k : ℕ) → Marked old k → Marked m k
+  pub unseen : get_or m sought 0 ≡ 0
+  pub most : unmarked m ≤ unmarked old
+  pub swept : Swept links i old m sought progress
 
-module _ (links : List Link) (old : List ℕ) (sought i : ℕ) (m : List ℕ) (grew : Bool) (turn : Turn links old sought i m grew) where
+module _ (links : List Link) (old : List ℕ) (sought i : ℕ) (m : List ℕ) (progress : Progress) (turn : Turn links old sought i m progress) where
   pub turn_marked : i < length links → (get_or links i no_link).to < length m → Marked m (get_or links i no_link).from → get_or m (get_or links i no_link).to 0 ≡ 0
-      → ((get_or links i no_link).to ≡ sought → ⊥) → Turn links old sought (i + 1) (set m (get_or links i no_link).to 1) true
+      → ((get_or links i no_link).to ≡ sought → ⊥) → Turn links old sought (i + 1) (set m (get_or links i no_link).to 1) Grew
   turn_marked within room from to ne =
-      let y = (get_or links i no_link).to in (
-        (λ a s. reached_more links a m (get_or links i no_link).from y (i, within, refl, refl) from (turn.0 a s)),
-        (λ k h. kept_more m y room k (turn.1 k h)),
-        get_or-set_other m y sought 1 0 (λ e. ne (sym e)) ∙ turn.2,
-        came_marked links i old m grew y room to turn.3,
-      )
+      let y = (get_or links i no_link).to in
+      record {
+        reached = λ a s. reached_more links a m (get_or links i no_link).from y (i, within, refl, refl) from (turn.reached a s);
+        kept = λ k h. kept_more m y room k (turn.kept k h);
+        unseen = get_or-set_other m y sought 1 0 (λ e. ne (sym e)) ∙ turn.unseen;
+        most = omega (arith, fewer_unmarked m y room to, turn.most);
+        swept = swept_marked links (i + 1) old m sought y room to turn.most;
+      }
 
-  pub turn_passed : (Marked m (get_or links i no_link).from → Marked m (get_or links i no_link).to) → Turn links old sought (i + 1) m grew
-  turn_passed here = (turn.0, turn.1, turn.2, came_passed links i old m grew here turn.3)
+  pub turn_passed : (Marked m (get_or links i no_link).from → Marked m (get_or links i no_link).to) → Turn links old sought (i + 1) m progress
+  turn_passed here = record { reached = turn.reached; kept = turn.kept; unseen = turn.unseen; most = turn.most; swept = swept_passed links i old m sought progress here turn.swept }
 
-  pub turn_at : (m' : List ℕ) (grew' : Bool) → m' ≡ m → grew' ≡ grew → Turn links old sought i m' grew'
-  turn_at m' grew' e f = subst (λ (g : Bool). Turn links old sought i m' g) (sym f) (subst (λ (x : List ℕ). Turn links old sought i x grew) (sym e) turn)
-
-pub clear_all : (m : List ℕ) → Clear m → (k : ℕ) → get_or m k 0 ≡ 0
-clear_all m clear k = ⊎_elim (λ (h : k < length m). clear k h) (λ (h : length m ≤ k). get_or_past m k 0 h) (cases_lt k (length m))
-
-pub reached_first : (links : List Link) (a : ℕ) (m : List ℕ) → Clear m → Reached links a (set m a 1)
-reached_first links a m clear k h =
-    ⊎_elim
-    (λ (e : k ≡ a). inl (sym e))
-    (λ (ne : k ≡ a → ⊥). let none : ⊥ = omega (arith, get_or-set_other m a k 1 0 ne, clear_all m clear k) in absurd none)
-    (cases_eq k a)
+  pub turn_at : (m' : List ℕ) (progress' : Progress) → m' ≡ m → progress' ≡ progress → Turn links old sought i m' progress'
+  turn_at m' progress' e f = subst (λ (p : Progress). Turn links old sought i m' p) (sym f) (subst (λ (x : List ℕ). Turn links old sought i x progress) (sym e) turn)
 
 -- where no link leads out of the marks, nothing that a marked type descends from is unmarked
 pub still_apart : (links : List Link) (a b : ℕ) (m : List ℕ) → Closed links (length links) m → Marked m a → get_or m b 0 ≡ 0 → Descends links a b → ⊥

@@ -1,5 +1,5 @@
 -- One sweep of the links over the marks.
-use Rattle.std.specs.Prelude.{◌≡◌, ℕ, ◌<◌, Bool, true, false, List, length, count_by, nat_eq, slice_index, slice_index_or}
+use Rattle.std.specs.Prelude.{◌≡◌, ℕ, ◌<◌, List, count_by, nat_eq, slice_index, slice_index_or}
 use Rattle.descent.specs.declared.link.Link.{Link}
 use Rattle.descent.specs.Links.{no_link, Descends}
 use Rattle.walk.specs.declared.search.Progress.{Progress}
@@ -19,13 +19,8 @@ Closed links i marks = (k : ℕ) → k < i → Marked marks (slice_index_or link
 abbrev pub unmarked : List ℕ → ℕ
 unmarked marks = count_by (λ mark. nat_eq mark 0) marks
 
--- how far a sweep has come after i links, where `grew` says whether it marked something
-abbrev pub Came : List Link → ℕ → List ℕ → List ℕ → Bool → Type 0
-Came links i old new true = unmarked new < unmarked old
-Came links i old new false = (new ≡ old) × Closed links i new
-
--- how a sweep that seeks a type ends
-abbrev pub Swept : List Link → List ℕ → List ℕ → ℕ → Progress → Type 0
-Swept links old new sought Found = (a : ℕ) → Reached links a old → Descends links a sought
-Swept links old new sought Grew = unmarked new < unmarked old
-Swept links old new sought Still = (new ≡ old) × Closed links (length links) new
+-- how a sweep that seeks a type stands after the first i links
+abbrev pub Swept : List Link → ℕ → List ℕ → List ℕ → ℕ → Progress → Type 0
+Swept links i old new sought Found = (a : ℕ) → Reached links a old → Descends links a sought
+Swept links i old new sought Grew = unmarked new < unmarked old
+Swept links i old new sought Still = (new ≡ old) × Closed links i new

@@ -1,15 +1,6 @@
 // The mark table of a search, and the guard that holds it.
 ghost use Rattle.walk.specs.Marks.{Clear};
 
-/// Sets every mark to 0.
-pub fn clear(marks: &mut [u16])
-    ensures { Clear marks.new }
-{
-    for mark in marks.iter_mut() {
-        *mark = 0;
-    }
-}
-
 /// Holds the mark table while a search runs, and sets it to 0 on each way out.
 pub struct Guard<'m>(pub &'m mut [u16]);
 
@@ -17,7 +8,7 @@ impl Drop for Guard<'_> {
     fn drop(self)
         ensures { Clear self.exit.0.now }
     {
-        clear(self.0);
+        self.0.fill(0);
         let Guard(_) = self;
     }
 }

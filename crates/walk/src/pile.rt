@@ -11,8 +11,11 @@ use descent::gate::Gate;
 use descent::opposite::Opposite;
 use descent::refusal::Refusal;
 
+/// A gate over the opposite of a gate over a walk.
+pub type Pile<'h, 'l, 'w> = Gate<'h, Opposite<Gate<'l, Walk<'w>>>>;
+
 /// Takes a pile apart: the walk's marks, all 0.
-pub fn marks_of_pile<'h, 'l, 'w>(pile: Gate<'h, Opposite<Gate<'l, Walk<'w>>>>) -> Vec<u16>
+pub fn marks_of_pile<'h, 'l, 'w>(pile: Pile<'h, 'l, 'w>) -> Vec<u16>
     ensures clear { Clear result.items }
     ensures table { result ≡ pile.entry.below.below.below.marks }
 {
@@ -22,11 +25,11 @@ pub fn marks_of_pile<'h, 'l, 'w>(pile: Gate<'h, Opposite<Gate<'l, Walk<'w>>>>) -
 /// Asks a pile one last question and takes it apart: the answer, and the walk's marks, all 0. The answer is yes
 /// where `b` descends from `a` by the links, the low levels do not fall from `b` to `a`, and the high ones not from `a` to `b`.
 pub fn ask_and_take_apart<'h, 'l, 'w>(
-    mut pile: Gate<'h, Opposite<Gate<'l, Walk<'w>>>>,
+    mut pile: Pile<'h, 'l, 'w>,
     a: u16,
     b: u16,
 ) -> (Result<bool, Refusal>, Vec<u16>)
-    ensures answer { Answers (min (min pile.entry.below.below.below.types (length pile.entry.below.below.levels.now)) (length pile.entry.levels.now)) (Gated pile.entry.levels.now (Swapped (Gated pile.entry.below.below.levels.now (Descends pile.entry.below.below.below.links.now)))) a b result.0 }
+    ensures answer { let low = pile.entry.below.below in Answers (min (min low.below.types (length low.levels.now)) (length pile.entry.levels.now)) (Gated pile.entry.levels.now (Swapped (Gated low.levels.now (Descends low.below.links.now)))) a b result.0 }
     ensures clear { Clear result.1.items }
 {
     let answer = pile.related(a, b);

@@ -26,9 +26,9 @@ fn sweep(links: &[Link], marks: &mut [u16], sought: u16) -> Progress
     ensures reached { (a : ℕ) → Reached links.now a marks.old → Reached links.now a marks.new }
     ensures kept { (k : ℕ) → Marked marks.old k → Marked marks.new k }
     ensures unseen { slice_index marks.new sought ≡ 0 }
-    ensures swept { Swept links.now marks.old marks.new sought result }
+    ensures swept { Swept links.now (length links.now) marks.old marks.new sought result }
 {
-    let mut grew = false;
+    let mut progress = Progress::Still;
     for link in links {
         let Link { from, to } = *link;
         if marks[from as usize] != 0 && marks[to as usize] == 0 {
@@ -36,14 +36,10 @@ fn sweep(links: &[Link], marks: &mut [u16], sought: u16) -> Progress
                 return Progress::Found;
             }
             marks[to as usize] = 1;
-            grew = true;
+            progress = Progress::Grew;
         }
     }
-    if grew {
-        Progress::Grew
-    } else {
-        Progress::Still
-    }
+    progress
 }
 
 /// Whether `a` descends from `b` by the links, at most as many sweeps over them as there are marks; leaves each mark at 0.

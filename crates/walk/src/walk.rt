@@ -1,13 +1,12 @@
 // The answerer that searches, over a mark table of its own.
 ghost use Rattle.std.specs.Prelude.{◌≡◌, ◌<◌, ◌≤◌, vec_len, MatchResult};
-ghost use Rattle.descent.specs.Answers.{Same, Answers};
+ghost use Rattle.descent.specs.Answers.{Keeps, Answers};
 ghost use Rattle.descent.specs.Laws.{descent_laws};
 ghost use Rattle.descent.specs.Links.{Descends, Within};
 ghost use Rattle.descent.specs.Refusals.{RefusesToMake};
 ghost use Rattle.walk.specs.Marks.{Clear};
 ghost use Rattle.walk.specs.Making.{walk_refusal};
 
-use crate::marks::clear;
 use crate::search::search;
 use descent::answerer::{Answerer, check_question};
 use descent::link::Link;
@@ -15,6 +14,7 @@ use descent::links::stray_end;
 use descent::refusal::{Refusal, Unmade};
 
 /// Searches a list of links. Its marks are all 0 between questions.
+// How many types there are stands beside the marks: their table is the host's and may be longer.
 #[derive(Drop)]
 pub struct Walk<'l> {
     links: &'l [Link],
@@ -51,7 +51,7 @@ impl<'l> Walk<'l> {
                 given: marks,
             });
         }
-        clear(&mut marks);
+        marks.fill(0);
         Ok(Walk {
             links,
             marks,
@@ -85,13 +85,11 @@ impl<'l> Answerer for Walk<'l> {
     }
 
     fn related(&mut self, a: u16, b: u16) -> Result<bool, Refusal>
-        ensures count { self.new.types ≡ self.old.types }
-        ensures relation { Same (Descends self.new.links.now) (Descends self.old.links.now) }
+        ensures kept { Keeps (λ s. s.types) (λ s. Descends s.links.now) self.old self.new }
         ensures answer { Answers self.old.types (Descends self.old.links.now) a b result }
         ensures table { vec_len self.new.marks ≡ vec_len self.old.marks }
     {
         check_question(self.types, a, b)?;
-        let links = self.links;
-        Ok(search(links, &mut self.marks, a, b))
+        Ok(search(self.links, &mut self.marks, a, b))
     }
 }

@@ -33,18 +33,17 @@ read_order r book types table s e t o =
     let w : table ≡ (contents_of r).written.order = o ∙ ap (λ (b : Hierarchy). (book_of b).written.order) e in
     (n, subst (λ (k : ℕ). Ordered k (contents_of r).entries.links table) (sym n) (subst (Ordered (length (contents_of r).entries.names) (contents_of r).entries.links) (sym w) (settled_order r s)))
 
-pub fill_ranks-requires : goal.fill_ranks-requires
-fill_ranks-requires c =
+pub fill_ranks-requires-clause-below : goal.fill_ranks-requires-clause-below
+fill_ranks-requires-clause-below c k h =
     let r = c.args.register.now in
-    let links = (contents_of r).entries.links in
-    let n = c.types.result in
-    let table = c.order.result.now in
-    let o = read_order r c.numbered-book.result.now n table c.requires.settled c.numbered-book.ensures c.types.ensures c.order.ensures in
-    record {
-      room = o.1.room;
-      below = λ k h. omega (arith, order_below n links table o.1 k h, o.0, types_few r);
-      once = order_once n links table o.1;
-    }
+    let o = read_order r c.numbered-book.result.now c.types.result c.order.result.now c.requires.settled c.numbered-book.ensures c.types.ensures c.order.ensures in
+    omega (arith, order_below c.types.result (contents_of r).entries.links c.order.result.now o.1 k h, o.0, types_few r)
+
+pub fill_ranks-requires-clause-once : goal.fill_ranks-requires-clause-once
+fill_ranks-requires-clause-once c =
+    let r = c.args.register.now in
+    let o = read_order r c.numbered-book.result.now c.types.result c.order.result.now c.requires.settled c.numbered-book.ensures c.types.ensures c.order.ensures in
+    order_once c.types.result (contents_of r).entries.links c.order.result.now o.1
 
 -- what was found through a gate of the ranks is the nearest common base
 found_is : (r : Register) (book : Hierarchy) (types indexed : ℕ) (links : List Link) (table levels : List ℕ) (a b : ℕ) (found : Option ℕ)

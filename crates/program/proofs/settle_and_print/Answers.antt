@@ -52,6 +52,6 @@ pub returns : goal.returns
 returns c =
     let r = c.args.register.now in
     let shown = unsettled_shown r (contents_of c.settle.new.self) c.deref_mut.result.now c.deref_mut-2.result.now c.settle.new.table c.settle.new.scratch c.in-Err.unsettled c.requires
-    (c.deref_mut.ensures.len ∙ c.in_ok-table.ensures) (c.deref_mut-2.ensures.len ∙ c.in_ok-scratch.ensures) c.in-Err.ensures in
+    (c.deref_mut.ensures.len ∙ c.in_ok-table.ensures.len) (c.deref_mut-2.ensures.len ∙ c.in_ok-scratch.ensures.len) c.in-Err.ensures in
     IfOk-weaker c.refused_without_place.result (λ v. vec_items v ≡ shown_report (placeless c.report.result.number)) (λ v. vec_items v ≡ shown_entries (contents_of r).entries)
     (λ v e. e ∙ ap (λ (x : Report). shown_report (placeless x.number)) c.report.ensures ∙ shown) c.refused_without_place.ensures

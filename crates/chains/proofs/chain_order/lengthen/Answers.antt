@@ -8,7 +8,7 @@ use Rattle.chains.proofs.chain_order.lengthen.Goals as goal
 found : (c : goal.In-Some) → c.in-Some.base < c.args.ranked.now.types
 found c =
     (next_base_some c.args.ranked.now.types c.args.ranked.now.links.now c.args.ranked.now.order.now c.loop-step.chain c.loop-step.last c.in-Some.base
-    (λ i h. (c.requires.ranked.types i (omega (arith, c.requires.ranked.long))).0) (sym c.in-Some.ensures)).0
+    (λ i h. (c.args.ranked.now.ranked.types i (omega (arith, c.args.ranked.now.ranked.long))).0) (sym c.in-Some.ensures)).0
 
 pub bounds-chain-base : goal.bounds-chain-base
 bounds-chain-base c = omega (arith, found c, c.loop-step.invariant.1)

@@ -1,4 +1,4 @@
-use Rattle.chains.specs.NextBases.{Lowest}
+use Rattle.chains.proofs.FreeBases.{Lowest}
 use Rattle.chains.proofs.chain_order.next_base.Given as goal
 
 abbrev pub invariant-loop-link : goal.invariant-loop-link

@@ -1,7 +1,7 @@
 use Rattle.std.proofs.Common.{◌≡◌, ℕ, ◌<◌, ◌≤◌, get_or}
 use Rattle.chains.proofs.joining.renumber.Given as goal
 
-abbrev pub invariant-loop-t : goal.invariant-loop-t
-invariant-loop-t l =
-    ((k : ℕ) → k < l.t → get_or l.chain k 0 ≡ get_or l.number (get_or l.initial.chain k 0) 0)
-    × ((k : ℕ) → l.t ≤ k → get_or l.chain k 0 ≡ get_or l.initial.chain k 0)
+abbrev pub invariant-loop-c : goal.invariant-loop-c
+invariant-loop-c l =
+    ((k : ℕ) → k < l.c-index → get_or l.chain k 0 ≡ get_or l.number (get_or l.initial.chain k 0) 0)
+    × ((k : ℕ) → l.c-index ≤ k → get_or l.chain k 0 ≡ get_or l.initial.chain k 0)

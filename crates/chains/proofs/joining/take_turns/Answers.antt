@@ -9,23 +9,22 @@ use Rattle.chains.proofs.joining.take_turns.Goals.{in-Some, in_default}
 
 pub bounds-last-d : goal.bounds-last-d
 bounds-last-d c =
-    let a = at_turn c.loop-c.invariant.0 c.loop-c-test.true c.mark_paths.new.marks c.requires.few c.mark_paths.ensures in
+    let a = at_turn c.loop-c.invariant.0 c.loop-c-test.true c.mark_paths.new.marks c.args.ranked.now.few c.mark_paths.ensures in
     omega (arith, (turning_host c.loop-c.invariant.0 c.loop-c-test.true a c.in-Some.ensures).0, c.loop-c.invariant.1)
 
 pub bounds-last-d-in-Some : goal.bounds-last-d-in-Some
 bounds-last-d-in-Some c =
-    let a = at_turn c.loop-c.invariant.0 c.loop-c-test.true c.mark_paths.new.marks c.requires.few c.mark_paths.ensures in
+    let a = at_turn c.loop-c.invariant.0 c.loop-c-test.true c.mark_paths.new.marks c.args.ranked.now.few c.mark_paths.ensures in
     omega (arith, (turning_host c.loop-c.invariant.0 c.loop-c-test.true a c.in-Some.ensures).0, c.loop-c.invariant.1)
 
-pub put_behind-requires : goal.put_behind-requires
-put_behind-requires c =
-    let long : length c.loop-c.chain ≡ c.args.ranked.now.types = c.loop-c.invariant.3 ∙ c.requires.chain_room in
-    let a = at_turn c.loop-c.invariant.0 c.loop-c-test.true c.mark_paths.new.marks c.requires.few c.mark_paths.ensures in
-    record {
-      room = c.loop-c.invariant.4 ∙ c.requires.position_room ∙ sym long;
-      below = omega (arith, long, (turning_host c.loop-c.invariant.0 c.loop-c-test.true a c.in-Some.ensures).1);
-      low = λ t h. omega (arith, c.requires.few, position_below c.loop-c.invariant.0.strung c.requires.ranked t (omega (arith, long)));
-    }
+pub put_behind-requires-clause-below : goal.put_behind-requires-clause-below
+put_behind-requires-clause-below c =
+    let a = at_turn c.loop-c.invariant.0 c.loop-c-test.true c.mark_paths.new.marks c.args.ranked.now.few c.mark_paths.ensures in
+    omega (arith, c.loop-c.invariant.3, c.requires.chain_room, (turning_host c.loop-c.invariant.0 c.loop-c-test.true a c.in-Some.ensures).1)
+
+pub put_behind-requires-clause-low : goal.put_behind-requires-clause-low
+put_behind-requires-clause-low c t h =
+    omega (arith, c.args.ranked.now.few, position_below c.loop-c.invariant.0.strung c.args.ranked.now.ranked t (omega (arith, c.loop-c.invariant.3, c.requires.chain_room)))
 
 pub loop-c-preserved : goal.loop-c-preserved
 loop-c-preserved c =
@@ -38,7 +37,7 @@ loop-c-preserved c =
     let m = c.match-find_host in
     let start = places count c.args.chain.now c.args.position.now in
     let s = c.loop-c.invariant.0 in
-    let a = at_turn s c.loop-c-test.true c.mark_paths.new.marks c.requires.few c.mark_paths.ensures in
+    let a = at_turn s c.loop-c-test.true c.mark_paths.new.marks c.args.ranked.now.few c.mark_paths.ensures in
     let long : length c.loop-c.chain ≡ n = c.loop-c.invariant.3 ∙ c.requires.chain_room in
     let there : (chains positions lasts : List ℕ) → m.chain ≡ chains → m.position ≡ positions → m.last ≡ lasts → Turning n links start count chains positions first lasts (i + 1)
     → Turning n links start count m.chain m.position first m.last (i + 1) = λ chains positions lasts e f g t.

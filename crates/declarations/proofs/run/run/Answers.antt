@@ -1,6 +1,5 @@
 use Rattle.std.proofs.Common.{List, [], vec_items, sym, refl, ◌∙◌, subst, arith}
 use Rattle.declarations.specs.declared.call.Answer.{Answer}
-use Rattle.std.proofs.lemmas.Result.{IfOk-from_err}
 use Rattle.declarations.specs.Books.{state_of}
 use Rattle.declarations.specs.Running.{Recorded, none_yet, setup_for}
 use Rattle.declarations.proofs.Running.{under_more, all_ran, new_setup}
@@ -10,9 +9,6 @@ pub loop-call-init : goal.loop-call-init
 loop-call-init g c =
     let A : List Answer → Type 0 = λ given. Recorded g.D.Decomposer.gives [] given [] in
     (refl, record { history = []; recorded = subst A (sym c.new-answers.ensures.items) none_yet; tells = c.new-book.ensures.told })
-
-pub returns-in_err-push : goal.returns-in_err-push
-returns-in_err-push g c = IfOk-from_err c.from_residual-in_err-push.result _ c.from_residual-in_err-push.ensures.0
 
 pub loop-call-preserved : goal.loop-call-preserved
 loop-call-preserved g c =

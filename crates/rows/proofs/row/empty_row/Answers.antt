@@ -1,13 +1,10 @@
-use Rattle.std.proofs.Common.{◌*◌, refl, arith}
-use Rattle.rows.proofs.Lowering.{written_more}
+use Rattle.std.proofs.Common.{◌-◌, ◌≡◌, arith}
+use Rattle.rows.proofs.RowPlaces.{part_outside}
 use Rattle.rows.proofs.row.empty_row.Goals as goal
 
-pub loop-c-preserved : goal.loop-c-preserved
-loop-c-preserved c =
-    written_more c.args.index.now c.loop-c.index (c.args.t * c.args.chains) (λ _. 65535) c.loop-c.c 65535 (omega arith) refl c.loop-c.invariant
-
-pub returns : goal.returns
-returns c = record {
-  row = λ k h. c.loop-c.invariant.0 k (omega arith);
-  outside = λ j out. c.loop-c.invariant.1 j (λ k h. out k (omega arith));
-}
+pub returns-clause-outside : goal.returns-clause-outside
+returns-clause-outside c j out =
+    let r = c.row.ensures in
+    let wide : c.row.result.end - c.row.result.start ≡ c.args.layout.now.chains = omega (arith, r.start, r.end) in
+    part_outside c.args.index.now c.fill.new.self c.row.result.start (c.row.result.end - c.row.result.start) j (omega (arith, r.start, r.end, wide, c.requires)) (omega (arith, c.fill.ensures.len))
+    (λ k h e. out k (omega (arith, wide)) (omega (arith, r.start)))

@@ -1,47 +1,34 @@
-use Rattle.std.proofs.Common.{◌+◌, ◌*◌, ◌<◌, ◌≤◌, length, get_or, ◌∙◌, arith}
+use Rattle.std.proofs.Common.{ℕ, ◌+◌, ◌*◌, ◌<◌, ◌≤◌, length, get_or, set, sym, ◌∙◌, subst, arith}
 use Rattle.std.proofs.lemmas.List.{get_or-set_other}
+use Rattle.rows.specs.Steps.{Whole}
+use Rattle.rows.proofs.LaidOut.{laid_out}
 use Rattle.rows.proofs.RowPlaces.{row_fits}
-use Rattle.rows.proofs.Visiting.{base_other, whole_outside, row_none, row_own}
+use Rattle.rows.proofs.Visiting.{base_other, whole_outside, row_own}
 use Rattle.rows.proofs.write.write_row.Goals as goal
 
-pub empty_row-requires : goal.empty_row-requires
-empty_row-requires c =
-    let layout = c.args.layout.now in
-    row_fits c.args.t layout.types layout.chains _ c.requires.below c.requires.index_room
+pub visit_bases-requires-clause-bases : goal.visit_bases-requires-clause-bases
+visit_bases-requires-clause-bases c b l =
+    let laid = laid_out c.args.layout.now in
+    whole_outside laid c.args.t b c.args.index.now c.empty_row.new.index (base_other laid c.args.t b l) c.empty_row.ensures.outside (c.requires.bases b l)
 
-pub visit_bases-requires : goal.visit_bases-requires
-visit_bases-requires c =
-    let layout = c.args.layout.now in
-    let t = c.args.t in
-    record {
-      laid = c.requires.laid;
-      slots_room = omega arith;
-      slotted = c.fill_slots.ensures.slotted;
-      kept_room = c.requires.kept_room;
-      index_room = omega arith;
-      row = row_none c.requires.laid t c.empty_row.new.index c.empty_row.ensures.row;
-      bases = λ b l. whole_outside c.requires.laid t b c.args.index.now c.empty_row.new.index (base_other c.requires.laid t b l) c.empty_row.ensures.outside (c.requires.bases b l);
-    }
-
-pub bounds-index-start : goal.bounds-index-start
-bounds-index-start c =
+pub bounds-index-place : goal.bounds-index-place
+bounds-index-place c =
     let layout = c.args.layout.now in
     let fits : c.args.t * layout.chains + layout.chains ≤ length c.args.index.now = row_fits c.args.t layout.types layout.chains _ c.requires.below c.requires.index_room in
-    omega (arith, c.requires.laid.chained.below c.args.t c.requires.below)
+    omega (arith, (laid_out c.args.layout.now).chained.below c.args.t c.requires.below)
 
-pub returns : goal.returns
-returns c =
+pub returns-clause-row : goal.returns-clause-row
+returns-clause-row c =
     let layout = c.args.layout.now in
     let t = c.args.t in
-    let own = get_or layout.chain.now t 0 in
     let index = c.visit_bases.new.index in
     let fits : t * layout.chains + layout.chains ≤ length c.args.index.now = row_fits t layout.types layout.chains _ c.requires.below c.requires.index_room in
-    let on : own < layout.chains = c.requires.laid.chained.below t c.requires.below in
-    record {
-      row = row_own c.requires.laid t c.requires.below index (omega arith) c.visit_bases.ensures.row;
-      outside = λ j out.
-          get_or-set_other index (t * layout.chains + own) j (get_or layout.position.now t 0) 0 (out own on)
-          ∙ c.visit_bases.ensures.outside j out ∙ c.empty_row.ensures.outside j out;
-      kept = c.visit_bases.ensures.kept;
-      slots_rest = c.fill_slots.ensures.rest;
-    }
+    let on : get_or layout.chain.now t 0 < layout.chains = (laid_out layout).chained.below t c.requires.below in
+    subst (λ (x : ℕ). Whole layout (set index x (get_or layout.position.now t 0)) t) (sym c.place.ensures) (row_own (laid_out layout) t c.requires.below index (omega arith) c.visit_bases.ensures.row)
+
+pub returns-clause-outside : goal.returns-clause-outside
+returns-clause-outside c j out =
+    let layout = c.args.layout.now in
+    let on = (laid_out layout).chained.below c.args.t c.requires.below in
+    get_or-set_other c.visit_bases.new.index c.place.result j (get_or layout.position.now c.args.t 0) 0 (λ e. out (get_or layout.chain.now c.args.t 0) on (e ∙ c.place.ensures))
+    ∙ c.visit_bases.ensures.outside j out ∙ c.empty_row.ensures.outside j out

@@ -1,26 +1,30 @@
-use Rattle.std.proofs.Common.{◌≡◌, true, false, sym, ap, ◌∙◌, true-eqb}
+use Rattle.std.proofs.Common.{◌≡◌, ℕ, List, ◌∷◌, Option, true, false, Bor, sym, ap, ◌∙◌, subst}
 use Rattle.std.specs.Option.{option_map}
-use Rattle.texts.specs.Texts.{lines_of}
-use Rattle.texts.specs.Lines.{lines_left}
-use Rattle.script.specs.Reading.{reading_of, begun, with_lines}
-use Rattle.script.proofs.Readings.{empty_line}
+use Rattle.texts.specs.Lines.{lines_left, Steps}
+use Rattle.script.specs.Reading.{reading_of, begun, with_bytes, with_lines}
+use Rattle.script.proofs.Readings.{lines_some}
 use Rattle.script.proofs.reading.read_script.Goals as goal
+use Rattle.script.proofs.reading.read_script.Goals.{in-Some+in_ok-add_bytes, in_default}
 
 pub loop-line-init : goal.loop-line-init
 loop-line-init c =
-    let all : lines_left (option_map (λ x. x.now) c.into_iter-line-iterator.result.rest) ≡ lines_of c.args.input.now = ap (λ s. lines_left (option_map (λ x. x.now) s.rest)) c.into_iter-line-iterator.ensures.into_iter_gives ∙ c.of-line-items.ensures in
-    (tt, tt, ap (λ r. with_lines true r (lines_left (option_map (λ x. x.now) c.into_iter-line-iterator.result.rest))) c.new-script.ensures ∙ ap (with_lines true begun) all)
-
-pub loop-line-preserved : goal.loop-line-preserved
-loop-line-preserved c =
-    let first = c.loop-line.first in
-    let r = reading_of c.loop-line.script in
-    let left = lines_left (option_map (λ x. x.now) c.next.new.self.rest) in (
+    let input = c.args.input.now in
+    let before = option_map (λ (x : Bor (List ℕ)). x.now) c.of-lines.result.rest in
+    let behind = option_map (λ (x : Bor (List ℕ)). x.now) c.next.new.self.rest in
+    let left = lines_left (option_map (λ (x : Bor (List ℕ)). x.now) c.into_iter-line-iterator.result.rest) in
+    let same : left ≡ lines_left behind = ap (λ s. lines_left (option_map (λ x. x.now) s.rest)) c.into_iter-line-iterator.ensures.into_iter_gives in (
       tt,
       tt,
-      ap (λ x. with_lines false x left) (sym (empty_line first r c.in-Some.line.now (true-eqb _ _ c.if-not-is_empty.ensures)))
-          ∙ sym (ap (with_lines first r) c.in-Some.ensures.steps) ∙ c.loop-line.invariant.2,
+      elim c.match-next.branch [
+        | in-Some+in_ok-add_bytes w ↦ (
+            let line = w.in-Some.line.now in
+            let steps : lines_left before ≡ line ∷ lines_left behind = subst (λ (r : Option (Bor (List ℕ))). Steps before (option_map (λ x. x.now) r) behind) w.in-Some.is c.next.ensures.steps in
+            ap (λ s. with_lines false (reading_of s) left) w.script-is
+            ∙ ap (λ r. with_lines false r left) w.in_ok-add_bytes.ensures
+            ∙ ap (λ r. with_lines false (with_bytes true r line) left) c.new-script.ensures
+            ∙ ap (λ l. with_lines true begun (line ∷ l)) same
+            ∙ ap (with_lines true begun) (sym steps ∙ c.of-lines.ensures)
+            )
+        | in_default w ↦ absurd (lines_some input (sym c.of-lines.ensures ∙ subst (λ (r : Option (Bor (List ℕ))). Steps before (option_map (λ x. x.now) r) behind) w.in_default.is c.next.ensures.steps))
+      ],
     )
-
-pub returns : goal.returns
-returns c = sym (ap (with_lines c.loop-line.first (reading_of c.loop-line.script)) c.in-None.ensures.steps) ∙ c.loop-line.invariant.2

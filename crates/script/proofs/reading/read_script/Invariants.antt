@@ -1,4 +1,4 @@
-use Rattle.std.proofs.Common.{◌≡◌}
+use Rattle.std.proofs.Common.{◌≡◌, false}
 use Rattle.std.specs.Option.{option_map}
 use Rattle.texts.specs.Lines.{lines_left}
 use Rattle.script.specs.Reading.{reading_of, with_lines, script_of}
@@ -8,4 +8,4 @@ use Rattle.script.proofs.reading.read_script.Given as goal
 abbrev pub invariant-loop-line : goal.invariant-loop-line
 invariant-loop-line l =
     (goal.iterator-loop-line).can_next l.line-iterator × (goal.iterator-loop-line).is_finite l.line-iterator
-    × (with_lines l.first (reading_of l.script) (lines_left (option_map (λ x. x.now) l.line-iterator.rest)) ≡ script_of l.input)
+    × (with_lines false (reading_of l.script) (lines_left (option_map (λ x. x.now) l.line-iterator.rest)) ≡ script_of l.input)

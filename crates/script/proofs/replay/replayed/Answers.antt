@@ -1,7 +1,7 @@
 use Rattle.std.proofs.Common.{◌≡◌, map, vec_items, ap, ◌∙◌, subst}
 use Rattle.std.proofs.lemmas.Result.{IfOk-weaker}
 use Rattle.declarations.specs.Running.{Ran, setup_for}
-use Rattle.declarations.specs.declared.call.TableSizes.{TableSizes}
+use Rattle.register.specs.declared.tables.TableSizes.{TableSizes}
 use Rattle.script.specs.Methods.{given}
 use Rattle.script.specs.Reading.{Reading, reading_of, script_of}
 use Rattle.script.specs.Replaying.{sizes_of, walk_types, walk_relates, Replayed}
@@ -14,7 +14,7 @@ returns c =
     let outcome = c.in_ok-outcome.outcome in
     let answers = c.deref-4.result.now in
     let read : reading_of c.in_ok-script.script ≡ script_of input = c.in_ok-script.ensures in
-    let sizes : c.sizes_of-sizes.result ≡ sizes_of (script_of input).lengths = c.sizes_of-sizes.ensures ∙ ap (λ (r : Reading). sizes_of r.lengths) read in
+    let sizes : c.from-sizes.result ≡ sizes_of (script_of input).lengths = c.from-sizes.ensures ∙ ap (λ (r : Reading). sizes_of r.lengths) read in
     IfOk-weaker c.print_steps.result (λ v. vec_items v ≡ shown_steps (map doing c.deref-3.result.now) answers) (λ v. Replayed input (vec_items v))
     (λ v e. record {
       calls = c.deref-2.result.now;

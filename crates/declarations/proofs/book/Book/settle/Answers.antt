@@ -1,4 +1,4 @@
-use Rattle.std.proofs.Common.{refl, arith}
+use Rattle.std.proofs.Common.{arith}
 use Rattle.hierarchy.proofs.LinkTables.{different_ends}
 use Rattle.register.specs.declared.register.Register.{Register}
 use Rattle.register.specs.Contents.{contents_of}
@@ -14,11 +14,7 @@ fit r = record {
   different = different_ends (contents_of r).entries.links r.numbered.entered.different;
 }
 
-pub returns : goal.returns
-returns g c =
+pub returns-clause-told : goal.returns-clause-told
+returns-clause-told g c =
     let self = c.args.self.now in
-    let after = contents_of c.settle.new.self in
-    record {
-      settles = record { contents = c.settle.ensures; rest = refl };
-      told = settle_goes (g.D.Decomposer.gives c.args.decomposer.now) (g.met.D.Decomposer.meaning c.args.decomposer.now) (state_of self) after (fit self.register) c.args.table.now c.args.scratch.now c.settle.new.table c.settle.new.scratch c.settle.auto.table c.settle.result c.settle.ensures;
-    }
+    settle_goes (g.D.Decomposer.gives c.args.decomposer.now) (g.met.D.Decomposer.meaning c.args.decomposer.now) (state_of self) (contents_of c.settle.new.self) (fit self.register) c.args.table.now c.args.scratch.now c.settle.new.table c.settle.new.scratch c.settle.auto.table c.settle.result c.settle.ensures

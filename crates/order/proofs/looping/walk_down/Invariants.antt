@@ -1,6 +1,0 @@
-use Rattle.std.proofs.Common.{◌≡◌}
-use Rattle.order.specs.Down.{unranked, down, walked}
-use Rattle.order.proofs.looping.walk_down.Given as goal
-
-abbrev pub invariant-loop : goal.invariant-loop
-invariant-loop l = l.at ≡ walked (down l.links (unranked l.rank)) l.t l.counter

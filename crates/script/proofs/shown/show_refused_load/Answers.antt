@@ -1,5 +1,0 @@
-use Rattle.std.proofs.Common.{vec_items, ap, ◌∙◌}
-use Rattle.script.proofs.shown.show_refused_load.Goals as goal
-
-pub returns : goal.returns
-returns c = ap vec_items c.into_bytes.ensures.value ∙ c.in_ok-shown.ensures.ok
