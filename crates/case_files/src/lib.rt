@@ -70,9 +70,8 @@ impl<'t> Iterator for Cases<'t> {
     }
 }
 
-/// What each case of an input comes out as, under a line with its number. Like the programs that run cases it has no
-/// `ensures`: what they write is compared with what the second programs say.
-pub fn run_cases<F: FnMut(&[u8]) -> Result<Vec<u8>, AllocError>>(
+// What each case of an input comes out as, under a line with its number.
+fn run_cases<F: FnMut(&[u8]) -> Result<Vec<u8>, AllocError>>(
     heap: Global,
     input: &[u8],
     mut run: F,
@@ -87,7 +86,8 @@ pub fn run_cases<F: FnMut(&[u8]) -> Result<Vec<u8>, AllocError>>(
     Ok(out)
 }
 
-/// Runs the cases of standard input, and prints what they come out as.
+/// Runs the cases of standard input, and prints what they come out as. Like the programs that run cases it has no `ensures`:
+/// what they write is compared with what the second programs say.
 pub fn run_input<F: FnMut(&[u8]) -> Result<Vec<u8>, AllocError>>(
     rt: &HostRuntime,
     run: F,
