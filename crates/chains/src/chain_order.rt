@@ -17,16 +17,22 @@ fn next_base(ranked: &RankedTypes, chain: &[u16], t: u16) -> Option<u16>
     requires { ranked.now.types ≤ length chain.now }
     ensures { result ≡ next_base ranked.now.links.now ranked.now.order.now chain.now t }
 {
-    // By hand: over `filter`, `map` and `min` the proof does not close, since what `min` asks of the order stays open.
-    let mut lowest: Option<u16> = None;
+    // By hand, and with the number of types where there is none yet: it is what most of chain order takes, and with an
+    // `Option` in its place the loop takes near twice as long. Over `filter`, `map` and `min` the proof does not close.
+    let mut lowest = ranked.types;
     for link in ranked.links {
         if link.from == t && chain[link.to as usize] == ON_NO_CHAIN {
             let rank = ranked.rank[link.to as usize];
-            lowest = Some(lowest.map_or(rank, |low| low.min(rank)));
+            if rank < lowest {
+                lowest = rank;
+            }
         }
     }
-    let rank = lowest?;
-    Some(ranked.order[rank as usize])
+    if lowest < ranked.types {
+        Some(ranked.order[lowest as usize])
+    } else {
+        None
+    }
 }
 
 // Adds to chain c, whose one type is t: while its last type has bases on no chain, the one of lowest rank.

@@ -30,7 +30,7 @@ fn check_trim(types: u16, links: &[Link], places: usize) -> Result<(), Refusal>
 fn is_rival(earlier: &[Link], other: Link, link: Link) -> bool
     ensures { Tells result (Rival earlier.now other link) }
 {
-    other.from == link.from && other.to != link.to && !earlier.contains(&other)
+    other.from == link.from && other.to != link.to && !earlier.iter().any(|link| *link == other)
 }
 
 // The flag of a link: 0 where another base of its type is related to its end, else 1. Each base is asked about once.

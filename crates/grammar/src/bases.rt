@@ -52,6 +52,8 @@ pub(crate) struct Bases<'t> {
 }
 
 /// The first name of a line, and the bases after it.
+// Inlined, as `next` is, so that names and faults are not copied on their way to who reads them.
+#[inline(always)]
 pub(crate) fn names_of<'t>(line: &'t [u8]) -> Result<(Name<'t>, Bases<'t>), Fault>
     ensures { MatchResult result (λ p. (p.1.line.now ≡ line.now) × (onward line.now 0 (in_name first fresh 0) nothing ≡ left_of line.now p.1.start (name_of p.0 ∷ []))) (λ x. onward line.now 0 (in_name first fresh 0) nothing ≡ unlawful x) }
 {
@@ -66,6 +68,7 @@ impl<'t> Iterator for Bases<'t> {
 
     ghost remaining = { λ s. at_most (bytes_left s.line.now s.start) };
 
+    #[inline(always)]
     fn next(&mut self) -> Option<Result<Name<'t>, Fault>> {
         match base(self.line, self.start?) {
             Ok((name, next)) => {

@@ -112,7 +112,8 @@ impl<'t> Cursor<'t> {
         Ok(end)
     }
 
-    // The end of the name here.
+    // The end of the name here. Inlined, so that no cursor is handed over for a name without brackets.
+    #[inline(always)]
     #[cycle(arguments_name)]
     pub(crate) fn name(self) -> Result<Cursor<'t>, Fault>
         ensures { NameRead self.entry self.entry.depth result }

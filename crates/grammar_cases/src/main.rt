@@ -11,9 +11,14 @@ use texts::refusal::{Place, Source};
 use texts::text::{check_texts, faulty_line};
 use vetting::vet;
 
+// The bytes that a word writes; a last digit that has no other beside it writes none.
 fn argument(heap: Global, word: Option<&str>) -> anyhow::Result<Vec<u8>> {
     let word = word.ok_or_else(|| anyhow!("an argument is wanting"))?;
-    Ok(hex::decode(heap, word.strip_prefix('=').unwrap_or(word))?)
+    let digits = word.strip_prefix('=').unwrap_or(word).as_bytes();
+    if !digits.iter().all(|digit| digit.is_ascii_hexdigit()) {
+        return Err(anyhow!("not a digit"));
+    }
+    Ok(hex::decode(heap, &digits[..digits.len() / 2 * 2])?)
 }
 
 fn show_name(rt: &HostRuntime, name: Name) -> anyhow::Result<()> {

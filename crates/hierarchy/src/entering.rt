@@ -1,5 +1,7 @@
 // Entering types and links, and taking them back.
 ghost use Rattle.std.specs.Prelude.{◌≡◌};
+ghost use Rattle.descent.specs.Answers.{Tells};
+ghost use Rattle.descent.specs.Links.{Linked};
 ghost use Rattle.hierarchy.specs.Entering.{held_of, links_in, type_answer, with_type, link_answer, with_link, back_answer, with_back};
 
 use crate::entered::{Entered, MOST_LINKS, MOST_TYPES};
@@ -12,6 +14,13 @@ use descent::links::stray_end;
 pub enum Entry {
     New,
     Known,
+}
+
+// Whether the link is one of these. By `any`, which stops where it finds it; `contains` tests links in groups.
+fn is_known(links: &[Link], sought: Link) -> bool
+    ensures { Tells result (Linked links.now sought.from sought.to) }
+{
+    links.iter().any(|link| *link == sought)
 }
 
 impl Entered {
@@ -45,7 +54,7 @@ impl Entered {
         if let Some(number) = stray_end(&[link], types) {
             return Err(Refusal::NotBelow { number, types });
         }
-        if self.links().contains(&link) {
+        if is_known(self.links(), link) {
             return Ok(Entry::Known);
         }
         let count = self.count;

@@ -47,6 +47,8 @@ fn next_type(types: u16, rank: &[u16], waiting: &[u16]) -> Option<u16>
 /// Ranks the types below `types`: of the unranked types whose subtypes are all ranked, the lowest-numbered gets the next rank.
 /// Writes the type of each rank to the front of `order`, and the rank of each type, or `UNRANKED`, to `rank`;
 /// answers how many types got a rank. `waiting` is working memory, an entry for each type.
+// Not inlined: within a larger function its inner loops spill.
+#[inline(never)]
 pub fn rank_types(
     types: u16,
     links: &[Link],
