@@ -26,11 +26,12 @@ fn check_trim(types: u16, links: &[Link], places: usize) -> Result<(), Refusal>
     Ok(())
 }
 
-// Whether the other link leads to another base of the type where `link` starts, and is none of the earlier ones.
+// Whether the other link leads to another base of the type where `link` starts, and is none of the earlier ones. By `any`,
+// which stops where it finds it; `contains` tests links in groups.
 fn is_rival(earlier: &[Link], other: Link, link: Link) -> bool
     ensures { Tells result (Rival earlier.now other link) }
 {
-    other.from == link.from && other.to != link.to && !earlier.iter().any(|link| *link == other)
+    other.from == link.from && other.to != link.to && !earlier.iter().any(|known| *known == other)
 }
 
 // The flag of a link: 0 where another base of its type is related to its end, else 1. Each base is asked about once.

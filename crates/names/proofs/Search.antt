@@ -1,9 +1,9 @@
 -- The search for a name: the number of the first name with its bytes.
-use Rattle.std.proofs.Common.{◌≡◌, ℕ, zero, suc, ◌+◌, ◌<◌, List, [], ◌∷◌, length, get_or, Some, None, Option, sym, refl, ap, ◌∙◌, ⊎_elim, add-zero, zero-add, arith}
+use Rattle.std.proofs.Common.{◌≡◌, ℕ, zero, suc, ◌+◌, ◌<◌, List, [], ◌∷◌, length, get_or, Some, None, sym, refl, ap, ◌∙◌, ⊎_elim, add-zero, arith}
 use Rattle.std.specs.Str.{bytes_eq}
 use Rattle.std.proofs.lemmas.Slice.Eq.{bytes_eq-Decides}
 use Rattle.std.proofs.lemmas.Bool.{cases_Bool, cond-true, cond-false}
-use Rattle.names.specs.Finding.{number_from, number_in}
+use Rattle.names.specs.Finding.{number_from}
 
 -- no name of the list has these bytes
 abbrev pub Without : List (List ℕ) → List ℕ → ℕ → Type 0
@@ -24,17 +24,10 @@ first_found first (name ∷ names) bytes (suc i) at =
     cond-false (bytes_eq name bytes) _ _ f ∙ first_found (first + 1) names bytes i (omega (arith, at.0), at.1, λ j h. at.2 (suc j) (omega arith)) ∙ ap (λ k. Some k) n)
     (cases_Bool (bytes_eq name bytes))
 
-none_found : (first : ℕ) (names : List (List ℕ)) (bytes : List ℕ) → Without names bytes (length names) → number_from first names bytes ≡ None
+pub none_found : (first : ℕ) (names : List (List ℕ)) (bytes : List ℕ) → Without names bytes (length names) → number_from first names bytes ≡ None
 none_found first [] bytes none = refl
 none_found first (name ∷ names) bytes none =
     ⊎_elim
     (λ t. absurd (none 0 (omega arith) ((bytes_eq-Decides name bytes).0 t)))
     (λ f. cond-false (bytes_eq name bytes) _ _ f ∙ none_found (first + 1) names bytes (λ i h. none (suc i) (omega arith)))
     (cases_Bool (bytes_eq name bytes))
-
--- what a search among all names comes to
-pub found : (names : List (List ℕ)) (bytes : List ℕ) (count : ℕ) (r : Option ℕ) → length names ≡ count → (r ≡ None → Without names bytes count) → ((i : ℕ) → r ≡ Some i → (i < count) × (get_or names i [] ≡ bytes) × Without names bytes i) → r ≡ number_in names bytes
-found names bytes count None long none at = sym (none_found 0 names bytes (λ i h. none refl i (omega arith)))
-found names bytes count (Some i) long none at =
-    let here = at i refl in
-    ap (λ k. Some k) (sym (zero-add i)) ∙ sym (first_found 0 names bytes i (omega (arith, here.0), here.1, here.2))

@@ -30,6 +30,8 @@ impl Names {
     pub fn find(&self, bytes: &[u8]) -> Option<u16>
         ensures { result ≡ number_in (names_in self.now) bytes.now }
     {
-        (0..self.count).find(|number| self.marked(*number) == bytes)
+        // In two steps: what is answered is said apart from the search for it.
+        let number = (0..self.count).find(|number| self.marked(*number) == bytes)?;
+        Some(number)
     }
 }

@@ -23,6 +23,8 @@ fn count_links(links: &[Link], waiting: &mut [u16])
 }
 
 // Takes the links from t off the entries of its bases.
+// Not inlined: within a larger function its loop, which much of settling is, came to lie worse in the program.
+#[inline(never)]
 fn release(links: &[Link], t: u16, waiting: &mut [u16])
     requires within { Within links.now (length waiting.old) }
     requires counted { (u : ℕ) → u < length waiting.old → links_between links.now t u ≤ slice_index waiting.old u }
@@ -47,8 +49,6 @@ fn next_type(types: u16, rank: &[u16], waiting: &[u16]) -> Option<u16>
 /// Ranks the types below `types`: of the unranked types whose subtypes are all ranked, the lowest-numbered gets the next rank.
 /// Writes the type of each rank to the front of `order`, and the rank of each type, or `UNRANKED`, to `rank`;
 /// answers how many types got a rank. `waiting` is working memory, an entry for each type.
-// Not inlined: within a larger function its inner loops spill.
-#[inline(never)]
 pub fn rank_types(
     types: u16,
     links: &[Link],

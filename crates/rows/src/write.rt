@@ -34,8 +34,6 @@ fn write_row(layout: &Layout, t: u16, slots: &mut [u16], kept: &mut [u16], index
 
 /// Writes the rows of all types to the front of `index` and the kept entries of all links to the front of `kept`, and
 /// answers the number of kept links. `slots` is working memory, an entry for each type.
-// Not inlined: within a larger function its inner loops spill.
-#[inline(never)]
 pub fn write_rows(layout: &Layout, slots: &mut [u16], kept: &mut [u16], index: &mut [u16]) -> usize
     requires slots_room { layout.now.types ≤ length slots.old }
     requires kept_room { length (links_in layout.now) ≤ length kept.old }

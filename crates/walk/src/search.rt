@@ -43,6 +43,8 @@ fn sweep(links: &[Link], marks: &mut [u16], sought: u16) -> Progress
 }
 
 /// Whether `a` descends from `b` by the links, at most as many sweeps over them as there are marks; leaves each mark at 0.
+// Not inlined: a trim has it in its loop over the links, which then takes twice as long where the search is seldom asked for.
+#[inline(never)]
 pub fn search(links: &[Link], marks: &mut [u16], a: u16, b: u16) -> bool
     requires within { Within links.now (length marks.old) }
     requires first { a < length marks.old }
